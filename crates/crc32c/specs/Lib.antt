@@ -1,0 +1,2 @@
+pub mod Crc32c
+pub mod Lanes

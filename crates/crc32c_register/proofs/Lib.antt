@@ -1,0 +1,3 @@
+pub mod Xor
+pub mod Steps
+pub mod Turns

@@ -1,0 +1,6 @@
+pub mod Tests
+pub mod Intervals
+pub mod Parts
+pub mod Overlap
+pub mod Locations
+pub mod Determined

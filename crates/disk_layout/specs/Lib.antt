@@ -1,0 +1,4 @@
+pub mod DiskLayout
+pub mod JournalInterval
+pub mod Answers
+pub mod Calls

@@ -1,0 +1,21 @@
+-- The number of each refusal: document 01, the table "When a call says no". Assumes nothing.
+use Prim.Native.Nat.{ℕ}
+use Rattle.refusals.specs.declared.Refusal.{Refusal}
+use Rattle.refusals.specs.declared.Refusal.the-variants.{SizeOutOfRange, CountsDisagree, FirstTooLong, SecondTooLong, RegionFull, RingFull, EntriesPending, NothingThere, OutputTooShort, LengthTooLarge, ImageNotWhole, PayloadNotWhole, Unreadable, RingUnreadable, PlaceNotValid}
+
+abbrev pub numberOf : Refusal → ℕ
+numberOf SizeOutOfRange = 1
+numberOf CountsDisagree = 2
+numberOf FirstTooLong = 3
+numberOf SecondTooLong = 4
+numberOf RegionFull = 5
+numberOf RingFull = 6
+numberOf EntriesPending = 7
+numberOf NothingThere = 8
+numberOf OutputTooShort = 9
+numberOf LengthTooLarge = 10
+numberOf ImageNotWhole = 11
+numberOf PayloadNotWhole = 13
+numberOf Unreadable = 14
+numberOf RingUnreadable = 15
+numberOf PlaceNotValid = 16

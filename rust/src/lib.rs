@@ -1,0 +1,5 @@
+//! The archive's exported functions, declared and wrapped, and a plain Rust model of them.
+pub mod calls;
+pub mod guarded;
+pub mod model;
+pub mod random;
