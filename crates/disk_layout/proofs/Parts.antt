@@ -59,6 +59,7 @@ parts-blocks n start len k v h = go (eqb len 0) (leb len (n - start)) refl refl
     none-in false z q =
         let f = valid-facts n (interval start len) v in
         simp (q, le-ltb (k + n) (start + len) (omega arith), and-false)
+
     go : (s t : Bool) → eqb len 0 ≡ s → leb len (n - start) ≡ t →
         InCyclicRange n k (interval start len)
         ≡ (inPart n k (cond s none (some (interval start (cond t len (n - start)))))

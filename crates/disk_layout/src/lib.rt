@@ -5,7 +5,7 @@ ghost use mathlib.Core.Bool.{true, _&&_};
 ghost use Prim.Native.Nat.{_+_, _*_, _≤_, _<_};
 ghost use lib.Dec.{leb};
 ghost use Rattle.disk_layout.specs.DiskLayout.{blocksInRange, ValidJournalLocation};
-ghost use Rattle.disk_layout.specs.JournalInterval.{ValidJournalInterval, ContiguousJournalInterval, journalIntervalOverlap, wrappedOverlap, journalCyclicIntervalOverlap, subinterval};
+ghost use Rattle.disk_layout.specs.JournalInterval.{ValidJournalInterval, ContiguousJournalInterval, interval, journalIntervalOverlap, wrappedOverlap, journalCyclicIntervalOverlap, subinterval};
 ghost use Rattle.disk_layout.specs.Answers.{partOutcome, intervalOutcome, locationOutcome, numberOutcome, testOutcome};
 ghost use Rattle.disk_layout.specs.Calls.{pointCall, frontCall, backCall, nextStartCall, subintervalCall, overlapCall, locationCall, intervalCall};
 use refusals::Refusal;
@@ -197,12 +197,12 @@ pub fn subinterval(n: u64, a: JournalInterval, b: JournalInterval) -> TestAnswer
     TestAnswer::Is(lies_within(n, a, b))
 }
 
-// Whether two intervals overlap that do not wrap.
-fn interval_overlap(a: JournalInterval, b: JournalInterval) -> bool
-    requires { ⌜ (a .start + a .len ≤ 1024) × (b .start + b .len ≤ 1024) ⌝ }
-    ensures { λ r. ⌜ r ≡ journalIntervalOverlap a b ⌝ }
+// Whether two intervals overlap that do not wrap: one of so many blocks from start on, and b.
+fn interval_overlap(start: u64, len: u64, b: JournalInterval) -> bool
+    requires { ⌜ (start + len ≤ 1024) × (b .start + b .len ≤ 1024) ⌝ }
+    ensures { λ r. ⌜ r ≡ journalIntervalOverlap (interval start len) b ⌝ }
 {
-    b.start < a.start + a.len && a.start < b.start + b.len
+    b.start < start + len && start < b.start + b.len
 }
 
 // Whether a, which wraps and is taken as its two parts, overlaps b, which does not.
@@ -211,18 +211,10 @@ fn wrapped_overlap(n: u64, a: JournalInterval, b: JournalInterval) -> bool
     ensures { λ r. ⌜ r ≡ wrappedOverlap n a b ⌝ }
 {
     let room = n - a.start;
-    let front = JournalInterval {
-        start: a.start,
-        len: room,
-    };
-    if interval_overlap(front, b) {
+    if interval_overlap(a.start, room, b) {
         return true;
     }
-    let back = JournalInterval {
-        start: 0,
-        len: a.len - room,
-    };
-    interval_overlap(back, b)
+    interval_overlap(0, a.len - room, b)
 }
 
 fn cyclic_overlap(n: u64, a: JournalInterval, b: JournalInterval) -> bool
@@ -239,7 +231,7 @@ fn cyclic_overlap(n: u64, a: JournalInterval, b: JournalInterval) -> bool
     if n < b.start + b.len {
         return wrapped_overlap(n, b, a);
     }
-    interval_overlap(a, b)
+    interval_overlap(a.start, a.len, b)
 }
 
 // Whether two intervals overlap: two that wrap always do, since both hold block 0.

@@ -11,6 +11,7 @@ use refusals::Refusal;
 
 // The largest number, and the largest that is whole blocks.
 const MAX: u64 = 18446744073709551615;
+
 const WHOLE: u64 = 18446744073709547520;
 
 fn text(s: &[u8]) {
@@ -108,32 +109,28 @@ fn contained(n: u64, start: u64, len: u64, in_start: u64, in_len: u64) {
     asked(b"contained", n);
     pair(start, len);
     pair(in_start, in_len);
-    show_test(
-        disk_layout::subinterval(
-            n,
-            JournalInterval { start, len },
-            JournalInterval {
-                start: in_start,
-                len: in_len,
-            },
-        ),
-    );
+    show_test(disk_layout::subinterval(
+        n,
+        JournalInterval { start, len },
+        JournalInterval {
+            start: in_start,
+            len: in_len,
+        },
+    ));
 }
 
 fn overlap(n: u64, start: u64, len: u64, other_start: u64, other_len: u64) {
     asked(b"overlap", n);
     pair(start, len);
     pair(other_start, other_len);
-    show_test(
-        disk_layout::journal_cyclic_interval_overlap(
-            n,
-            JournalInterval { start, len },
-            JournalInterval {
-                start: other_start,
-                len: other_len,
-            },
-        ),
-    );
+    show_test(disk_layout::journal_cyclic_interval_overlap(
+        n,
+        JournalInterval { start, len },
+        JournalInterval {
+            start: other_start,
+            len: other_len,
+        },
+    ));
 }
 
 fn location(n: u64, start: u64, len: u64) {

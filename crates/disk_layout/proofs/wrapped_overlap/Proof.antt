@@ -16,8 +16,8 @@ returns : tie.Need-returns
 unfolding wrappedOverlap
 returns c = simp (held (c .before .interval-overlap .ensures) (c .if1 .taken))
 
-sub-t8 : tie.Need-sub-t8
-sub-t8 c = search needs
+sub-interval-overlap : tie.Need-sub-interval-overlap
+sub-interval-overlap c = search needs
 
 interval-overlap-requires-2 : tie.Need-interval-overlap-requires-2
 interval-overlap-requires-2 c κs = search needs
@@ -28,4 +28,4 @@ returns-2 c = simp (missed (c .before .before .before .interval-overlap .ensures
 
 pub wrapped-overlap-spec : {M : Type 1} → statement M
 wrapped-overlap-spec =
-    tie.close (tie.spec sub-room interval-overlap-requires returns sub-t8 interval-overlap-requires-2 returns-2)
+    tie.close (tie.spec sub-room interval-overlap-requires returns sub-interval-overlap interval-overlap-requires-2 returns-2)
