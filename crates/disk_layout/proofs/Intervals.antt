@@ -10,7 +10,7 @@ use Rattle.disk_layout.specs.DiskLayout.{blocksInRange}
 use Rattle.disk_layout.specs.JournalInterval.{ValidJournalInterval, ContiguousJournalInterval, NextStartPoint}
 use Rattle.disk_layout.proofs.Tests.{both, same, never}
 
--- what each test tells of its numbers
+-- what each test tells of its numbers, and back
 pub range-facts : (n : ℕ) → blocksInRange n ≡ true → (1 ≤ n) × (n ≤ 1024)
 range-facts n h = let p = both (leb 1 n) (leb n 1024) h in (leb-true 1 n (p .0), leb-true n 1024 (p .1))
 
@@ -33,6 +33,7 @@ pub contiguous-true : (n : ℕ) (i : JournalInterval) → i .start < n → i .st
 unfolding ContiguousJournalInterval
 contiguous-true n i s e = simp (valid-true n i s (omega arith), le-leb (i .start + i .len) n e)
 
+-- the numbers of two valid intervals
 pub record BothValid (n : ℕ) (a b : JournalInterval) : Type 0 where
   pub a-start : a .start < n
   pub a-len : a .len ≤ n
@@ -53,6 +54,7 @@ contiguous-room n i s =
     (λ h. contiguous-true n i s (omega (arith, leb-true (i .len) (n - i .start) h)))
     (λ h. le-leb (i .len) (n - i .start) (omega (arith, contiguous-facts n i h)))
 
+-- and not where it starts past the region
 pub contiguous-past : (n : ℕ) (i : JournalInterval) → n ≤ i .start → ltb (i .start) n ≡ ContiguousJournalInterval n i
 contiguous-past n i s =
     le-ltb (i .start) n s ∙ sym (never (ContiguousJournalInterval n i) (λ h. omega (arith, contiguous-facts n i h)))

@@ -58,9 +58,11 @@ location-true n loc h f =
       le-leb (a + l) ((2 + n) * 4096) (f .end),
     )
 
+-- a location is not valid where one of those facts fails
 pub location-none : (n : ℕ) (loc : Location) → (InRegion n loc → ⊥) → false ≡ ValidJournalLocation n loc
 location-none n loc f = sym (never (ValidJournalLocation n loc) (λ h. f (location-facts n loc h)))
 
+-- nor where it starts past the region
 pub location-past : (n : ℕ) (loc : Location) → (2 + n) * 4096 ≤ loc .addr → ltb (loc .addr) ((2 + n) * 4096) ≡ ValidJournalLocation n loc
 location-past n loc h = le-ltb (loc .addr) ((2 + n) * 4096) h ∙ location-none n loc (λ f. omega (arith, f .high))
 
@@ -68,7 +70,7 @@ location-past n loc h = le-ltb (loc .addr) ((2 + n) * 4096) h ∙ location-none 
 pub location-room : (n : ℕ) (loc : Location) → n ≤ 1024 → loc .addr % 4096 ≡ 0 → loc .len % 4096 ≡ 0 → 8192 ≤ loc .addr → loc .addr < (2 + n) * 4096 → leb (loc .len) ((2 + n) * 4096 - loc .addr) ≡ ValidJournalLocation n loc
 location-room n loc h a l s e =
     same (leb (loc .len) ((2 + n) * 4096 - loc .addr)) (ValidJournalLocation n loc)
-    (λ t. location-true n loc h (record { addr-whole = a; len-whole = l; low = s; high = e; end = omega (arith, leb-true (loc .len) ((2 + n) * 4096 - loc .addr) t) }))
+    (λ t. location-true n loc h (omega (arith, leb-true (loc .len) ((2 + n) * 4096 - loc .addr) t)))
     (λ t. le-leb (loc .len) ((2 + n) * 4096 - loc .addr) (omega (arith, location-facts n loc t)))
 
 -- an interval that does not wrap has a valid location
@@ -76,8 +78,7 @@ pub location-valid : (n : ℕ) (i : JournalInterval) → blocksInRange n ≡ tru
 location-valid n i h v =
     let r = range-facts n h in
     let f = contiguous-facts n i v in
-    location-true n (JournalRangeLocation (i .start) (i .len)) (r .1)
-    (record { addr-whole = omega arith; len-whole = omega arith; low = omega arith; high = omega arith; end = omega arith })
+    location-true n (JournalRangeLocation (i .start) (i .len)) (r .1) (omega arith)
 
 -- a valid location's interval does not wrap
 pub interval-contiguous : (n : ℕ) (loc : Location) → ValidJournalLocation n loc ≡ true → ContiguousJournalInterval n (JournalIntervalOfLocation loc) ≡ true

@@ -20,6 +20,7 @@ back-none n start len h = go (eqb len 0)
     go true = refl
     go false = simp (le-leb len (n - start) h)
 
+-- the rest past that room
 pub back-some : (n start len : ℕ) → n - start < len → JournalBackInterval n start len ≡ some (interval 0 (len - (n - start)))
 unfolding JournalBackInterval
 back-some n start len h = simp (ne-eqb len 0 (λ z. omega arith), lt-leb len (n - start) h)
@@ -29,6 +30,7 @@ abbrev pub lengthOf : Option JournalInterval → ℕ
 lengthOf none = 0
 lengthOf (some i) = i .len
 
+-- block k is one of the part's
 abbrev pub inPart : (n k : ℕ) → Option JournalInterval → Bool
 inPart n k none = false
 inPart n k (some i) = InCyclicRange n k i
@@ -46,7 +48,7 @@ parts-length n start len = go (eqb len 0) (leb len (n - start)) refl refl
     go false true p q = omega arith
     go false false p q = omega (arith, leb-false len (n - start) q)
 
--- and the same ones
+-- and the same blocks
 pub parts-blocks : (n start len k : ℕ) → ValidJournalInterval n (interval start len) ≡ true → k < n →
     InCyclicRange n k (interval start len) ≡ (inPart n k (JournalFrontInterval n start len) || inPart n k (JournalBackInterval n start len))
 unfolding JournalFrontInterval JournalBackInterval InCyclicRange

@@ -1,10 +1,10 @@
 -- Tests and the facts that they stand for: what a branch on a call's result tells, and when two tests are the same. Assumes nothing.
-use Prim.Native.Nat.{ℕ, _≤_, _<_}
+use Prim.Native.Nat.{ℕ, _<_}
 use mathlib.Core.Bool.{Bool, true, false, not, _&&_, and-eq-true-iff}
 use mathlib.Core.Path.{_≡_, refl, sym, _∙_}
-use lib.Dec.{leb, ltb}
+use lib.Dec.{ltb}
 use borrow.Author.Needs.{needs}
-use borrow.Author.Tests.{le-leb, lt-leb, le-ltb, lt-ltb, eq-eqb, ne-eqb, leb-true, ltb-true, not-true, not-false}
+use borrow.Author.Tests.{le-leb, lt-leb, le-ltb, lt-ltb, eq-eqb, ne-eqb, ltb-true, not-true, not-false}
 
 -- a return of a function whose definition is made of tests on numbers
 pub ruleset decides = (needs, le-leb, lt-leb, le-ltb, lt-ltb, eq-eqb, ne-eqb)
@@ -17,12 +17,10 @@ pub failed : {r t : Bool} → r ≡ t → not r ≡ true → t ≡ false
 failed {r} e h = sym e ∙ not-true r h
 
 -- the same for `if call() { return .. }`
-pub held : {r t : Bool} → r ≡ t → r ≡ true → t ≡ true
-held e h = sym e ∙ h
+pub told : {r t v : Bool} → r ≡ t → r ≡ v → t ≡ v
+told e h = sym e ∙ h
 
-pub missed : {r t : Bool} → r ≡ t → r ≡ false → t ≡ false
-missed e h = sym e ∙ h
-
+-- both tests of a pair
 pub both : (s t : Bool) → (s && t) ≡ true → (s ≡ true) × (t ≡ true)
 both s t h = and-eq-true-iff s t .0 h
 
@@ -37,10 +35,7 @@ pub never : (t : Bool) → (t ≡ true → ⊥) → t ≡ false
 never true f = absurd (f refl)
 never false f = refl
 
-pub leb-same : (a b c d : ℕ) → (a ≤ b → c ≤ d) → (c ≤ d → a ≤ b) → leb a b ≡ leb c d
-leb-same a b c d f g =
-    same (leb a b) (leb c d) (λ h. le-leb c d (f (leb-true a b h))) (λ h. le-leb a b (g (leb-true c d h)))
-
+-- the same of two comparisons
 pub ltb-same : (a b c d : ℕ) → (a < b → c < d) → (c < d → a < b) → ltb a b ≡ ltb c d
 ltb-same a b c d f g =
     same (ltb a b) (ltb c d) (λ h. lt-ltb c d (f (ltb-true a b h))) (λ h. lt-ltb a b (g (ltb-true c d h)))

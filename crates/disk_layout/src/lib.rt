@@ -2,7 +2,7 @@
 // Every argument may be any 64-bit number. A call first tests N (refusal 1), then the interval or the location (refusal 16).
 ghost use mathlib.Core.Path.{_≡_};
 ghost use mathlib.Core.Bool.{true, _&&_};
-ghost use Prim.Native.Nat.{_+_, _*_, _≤_, _<_};
+ghost use Prim.Native.Nat.{_+_, _≤_, _<_};
 ghost use lib.Dec.{leb};
 ghost use Rattle.disk_layout.specs.DiskLayout.{blocksInRange, ValidJournalLocation};
 ghost use Rattle.disk_layout.specs.JournalInterval.{ValidJournalInterval, ContiguousJournalInterval, interval, journalIntervalOverlap, wrappedOverlap, journalCyclicIntervalOverlap, subinterval};
@@ -56,10 +56,10 @@ pub fn blocks_in_range(n: u64) -> bool
     1 <= n && n <= 1024
 }
 
-fn valid_interval(n: u64, i: JournalInterval) -> bool
-    ensures { λ r. ⌜ r ≡ ValidJournalInterval n i ⌝ }
+fn valid_interval(n: u64, indices: JournalInterval) -> bool
+    ensures { λ r. ⌜ r ≡ ValidJournalInterval n indices ⌝ }
 {
-    i.start < n && i.len <= n
+    indices.start < n && indices.len <= n
 }
 
 fn both_valid(n: u64, a: JournalInterval, b: JournalInterval) -> bool
@@ -93,6 +93,7 @@ fn valid_location(n: u64, loc: Location) -> bool
     loc.addr < end && loc.len <= end - loc.addr
 }
 
+// The byte at which a block starts. Point N is the region's end.
 pub fn journal_point(n: u64, point: u64) -> NumberAnswer
     ensures { λ r. ⌜ numberOutcome r ≡ pointCall n point ⌝ }
 {

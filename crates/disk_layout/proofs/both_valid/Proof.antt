@@ -1,6 +1,6 @@
 -- `both_valid` meets its contract: where the first interval is valid, the answer is that of the second.
 -- Assumes nothing.
-use Rattle.disk_layout.proofs.Tests.{held, missed}
+use Rattle.disk_layout.proofs.Tests.{told}
 use borrow.Author.Needs.{needs}
 use Rattle.disk_layout.proofs.both_valid.Statement.{statement}
 use Rattle.disk_layout.proofs.both_valid.Tie as tie
@@ -12,10 +12,10 @@ valid-interval-requires-2 : tie.Need-valid-interval-requires-2
 valid-interval-requires-2 c κs = search needs
 
 returns : tie.Need-returns
-returns c = simp (held (c .before .before .valid-interval .ensures) (c .before .if1 .taken)) (c .valid-interval2 .ensures)
+returns c = simp (told (c .before .before .valid-interval .ensures) (c .before .if1 .taken)) (c .valid-interval2 .ensures)
 
 returns-2 : tie.Need-returns-2
-returns-2 c = simp (c .if1 .left, missed (c .before .valid-interval .ensures) (c .if1 .left))
+returns-2 c = simp (c .if1 .left, told (c .before .valid-interval .ensures) (c .if1 .left))
 
 pub both-valid-spec : {M : Type 1} → statement M
 both-valid-spec =

@@ -1,7 +1,7 @@
 -- `lies_within` meets its contract: it tries the two ways of `subinterval` one after the other. No sum wraps, since both intervals are valid.
 -- Assumes nothing.
 use Rattle.disk_layout.proofs.Intervals.{BothValid, both-facts}
-use Rattle.disk_layout.proofs.Tests.{held, missed}
+use Rattle.disk_layout.proofs.Tests.{told}
 use Rattle.disk_layout.specs.JournalInterval.{subinterval}
 use native.Mathlib.Omega.{arith}
 use Rattle.disk_layout.proofs.lies_within.Statement.{statement}
@@ -18,7 +18,7 @@ within-requires c κs = omega (arith, c .before .pre .0, facts (c .before))
 
 returns : tie.Need-returns
 unfolding subinterval
-returns c = simp (held (c .before .within .ensures) (c .if1 .taken))
+returns c = simp (told (c .before .within .ensures) (c .if1 .taken))
 
 add-within-2 : tie.Need-add-within-2
 add-within-2 c = omega (arith, c .before .before .before .before .pre .0, facts (c .before .before .before .before))
@@ -34,7 +34,7 @@ within-requires-2 c κs = omega (arith, c .before .before .before .before .befor
 
 returns-2 : tie.Need-returns-2
 unfolding subinterval
-returns-2 c = simp (missed (c .before .before .before .before .before .within .ensures) (c .before .before .before .before .if1 .left)) (c .within2 .ensures)
+returns-2 c = simp (told (c .before .before .before .before .before .within .ensures) (c .before .before .before .before .if1 .left)) (c .within2 .ensures)
 
 pub lies-within-spec : {M : Type 1} → statement M
 lies-within-spec =

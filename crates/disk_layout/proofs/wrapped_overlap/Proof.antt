@@ -1,6 +1,6 @@
 -- `wrapped_overlap` meets its contract: it tries the two parts of `wrappedOverlap` one after the other.
 -- Assumes nothing.
-use Rattle.disk_layout.proofs.Tests.{held, missed}
+use Rattle.disk_layout.proofs.Tests.{told}
 use Rattle.disk_layout.specs.JournalInterval.{wrappedOverlap}
 use borrow.Author.Needs.{needs}
 use Rattle.disk_layout.proofs.wrapped_overlap.Statement.{statement}
@@ -14,7 +14,7 @@ interval-overlap-requires c κs = search needs
 
 returns : tie.Need-returns
 unfolding wrappedOverlap
-returns c = simp (held (c .before .interval-overlap .ensures) (c .if1 .taken))
+returns c = simp (told (c .before .interval-overlap .ensures) (c .if1 .taken))
 
 sub-interval-overlap : tie.Need-sub-interval-overlap
 sub-interval-overlap c = search needs
@@ -24,7 +24,7 @@ interval-overlap-requires-2 c κs = search needs
 
 returns-2 : tie.Need-returns-2
 unfolding wrappedOverlap
-returns-2 c = simp (missed (c .before .before .before .interval-overlap .ensures) (c .before .before .if1 .left)) (c .interval-overlap2 .ensures)
+returns-2 c = simp (told (c .before .before .before .interval-overlap .ensures) (c .before .before .if1 .left)) (c .interval-overlap2 .ensures)
 
 pub wrapped-overlap-spec : {M : Type 1} → statement M
 wrapped-overlap-spec =
