@@ -6,7 +6,6 @@ ghost use lib.ListN.{length};
 ghost use Rattle.crc32c_register.specs.Register.{stepByte};
 ghost use Rattle.crc32c.specs.Crc32c.{crc32cOf, checksumBytes};
 ghost use Rattle.crc32c.specs.Lanes.{lanes};
-
 use crc32c_register::step_byte;
 use crc32c_tables::step_128;
 use words::word_of;

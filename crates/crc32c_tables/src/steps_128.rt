@@ -2,7 +2,6 @@
 ghost use mathlib.Core.Path.{_≡_};
 ghost use Prim.Native.Nat.{_%_};
 ghost use Rattle.crc32c_register.specs.Register.{stepBits};
-
 use crc32c_register::step_bits;
 
 // A key is the digit with a 1 above it: of a key that fills a byte exactly, the compiler would make a signed one, an instruction more at each look.

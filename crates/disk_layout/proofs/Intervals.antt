@@ -8,7 +8,7 @@ use borrow.Author.Tests.{leb-true, ltb-true, le-leb, lt-ltb, le-ltb}
 use Rattle.disk_layout.specs.declared.JournalInterval.{JournalInterval}
 use Rattle.disk_layout.specs.DiskLayout.{blocksInRange}
 use Rattle.disk_layout.specs.JournalInterval.{ValidJournalInterval, ContiguousJournalInterval, NextStartPoint}
-use Rattle.disk_layout.proofs.Tests.{both, same, never}
+use Rattle.refusals.proofs.Tests.{both, same, never}
 
 -- what each test tells of its numbers, and back
 pub range-facts : (n : ℕ) → blocksInRange n ≡ true → (1 ≤ n) × (n ≤ 1024)

@@ -1,4 +1,3 @@
-pub mod Tests
 pub mod Intervals
 pub mod Parts
 pub mod Overlap

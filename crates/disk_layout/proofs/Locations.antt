@@ -7,9 +7,9 @@ use native.Mathlib.Omega.{arith}
 use borrow.Author.Tests.{leb-true, ltb-true, eqb-true, le-leb, lt-ltb, le-ltb, eq-eqb}
 use Rattle.disk_layout.specs.declared.Location.{Location}
 use Rattle.disk_layout.specs.declared.JournalInterval.{JournalInterval}
-use Rattle.disk_layout.specs.DiskLayout.{blocksInRange, JournalPoint, ValidJournalLocation, JournalRangeLocation}
+use Rattle.disk_layout.specs.DiskLayout.{blocksInRange, JournalStartAddr, JournalEndAddr, JournalPoint, ValidJournalLocation, JournalRangeLocation}
 use Rattle.disk_layout.specs.JournalInterval.{interval, ContiguousJournalInterval, JournalIntervalOfLocation}
-use Rattle.disk_layout.proofs.Tests.{both, same, never}
+use Rattle.refusals.proofs.Tests.{both, same, never}
 use Rattle.disk_layout.proofs.Intervals.{range-facts, contiguous-facts, contiguous-true}
 
 -- the numbers of a valid location
@@ -100,3 +100,7 @@ interval-of-location start len =
     let s : (JournalPoint start - 8192) / 4096 ≡ start = omega arith in
     let l : len * 4096 / 4096 ≡ len = omega arith in
     rw (s, l)
+
+-- a valid location lies between the region's first byte and its end
+pub location-between : (n : ℕ) (loc : Location) → ValidJournalLocation n loc ≡ true → (JournalStartAddr ≤ loc .addr) × (loc .addr + loc .len ≤ JournalEndAddr n)
+location-between n loc h = let f = location-facts n loc h in (f .low, omega arith)

@@ -7,7 +7,7 @@ use native.Mathlib.Omega.{arith}
 use borrow.Author.Tests.{le-leb, lt-leb, lt-ltb, le-ltb, ne-eqb, ltb-true, ltb-false, eqb-true, eqb-false}
 use Rattle.disk_layout.specs.declared.JournalInterval.{JournalInterval}
 use Rattle.disk_layout.specs.JournalInterval.{interval, ValidJournalInterval, InCyclicRange, journalIntervalOverlap, wrappedOverlap, journalCyclicIntervalOverlap}
-use Rattle.disk_layout.proofs.Tests.{ltb-same}
+use Rattle.refusals.proofs.Tests.{ltb-same}
 use Rattle.disk_layout.proofs.Intervals.{valid-facts}
 
 -- overlap does not look at the order of its two intervals

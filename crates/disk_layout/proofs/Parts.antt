@@ -8,7 +8,7 @@ use native.Mathlib.Omega.{arith}
 use borrow.Author.Tests.{le-leb, lt-leb, lt-ltb, le-ltb, ne-eqb, leb-true, leb-false, eqb-true}
 use Rattle.disk_layout.specs.declared.JournalInterval.{JournalInterval}
 use Rattle.disk_layout.specs.JournalInterval.{interval, ValidJournalInterval, InCyclicRange, JournalFrontInterval, JournalBackInterval}
-use Rattle.disk_layout.proofs.Tests.{ltb-same}
+use Rattle.refusals.proofs.Tests.{ltb-same}
 use Rattle.disk_layout.proofs.Intervals.{valid-facts}
 
 -- the back by the room behind the start alone: no blocks are within any room

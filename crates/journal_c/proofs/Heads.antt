@@ -31,8 +31,9 @@ unfolding checksumCall
 room payload out head after fits is copied =
     let filled = checksumBytes payload ++ drop 32 out in
     let outcome : checksumCall payload out ≡ gives filled = simp (le-leb 32 (length out) fits) in
-    let both = settles (checksumCall payload out) (gives filled) out outcome in
-    (both .0,
-    copied
-    ∙ ap₂ (λ (l : List ℕ) (n : ℕ). l ++ drop n out) (take-length head ∙ is) (ap length is ∙ length-checksumBytes payload)
-    ∙ both .1)
+    let both = settles (checksumCall payload out) (gives filled) out outcome in (
+      both .0,
+      copied
+          ∙ ap₂ (λ (l : List ℕ) (n : ℕ). l ++ drop n out) (take-length head ∙ is) (ap length is ∙ length-checksumBytes payload)
+          ∙ both .1,
+    )

@@ -3,7 +3,6 @@ ghost use mathlib.Core.Path.{_≡_};
 ghost use Rattle.crc32c.specs.Crc32c.{crc32cOf};
 ghost use Rattle.journal_c.specs.Numbers.{codeOf};
 ghost use Rattle.journal_c.specs.Checksum.{checksumCall, outputAfter};
-
 use refusals::Refusal;
 
 // CRC-32C of s.

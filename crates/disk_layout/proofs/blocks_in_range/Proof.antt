@@ -1,6 +1,6 @@
 -- `blocks_in_range` meets its contract: its two tests are those of `blocksInRange`.
 -- Assumes nothing.
-use Rattle.disk_layout.proofs.Tests.{decides}
+use Rattle.refusals.proofs.Tests.{decides}
 use Rattle.disk_layout.proofs.blocks_in_range.Statement.{statement}
 use Rattle.disk_layout.proofs.blocks_in_range.Tie as tie
 

@@ -1,6 +1,6 @@
 -- `both_valid` meets its contract: where the first interval is valid, the answer is that of the second.
 -- Assumes nothing.
-use Rattle.disk_layout.proofs.Tests.{told}
+use Rattle.refusals.proofs.Tests.{told}
 use borrow.Author.Needs.{needs}
 use Rattle.disk_layout.proofs.both_valid.Statement.{statement}
 use Rattle.disk_layout.proofs.both_valid.Tie as tie

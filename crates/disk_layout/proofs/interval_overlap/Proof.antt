@@ -1,6 +1,6 @@
 -- `interval_overlap` meets its contract: its two tests are those of `journalIntervalOverlap`.
 -- Assumes nothing.
-use Rattle.disk_layout.proofs.Tests.{decides}
+use Rattle.refusals.proofs.Tests.{decides}
 use Rattle.disk_layout.specs.JournalInterval.{journalIntervalOverlap}
 use borrow.Author.Needs.{needs}
 use Rattle.disk_layout.proofs.interval_overlap.Statement.{statement}

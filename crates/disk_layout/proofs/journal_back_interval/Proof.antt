@@ -3,7 +3,7 @@
 use Prim.Native.Nat.{_<_}
 use Rattle.disk_layout.proofs.Intervals.{valid-facts}
 use Rattle.disk_layout.proofs.Parts.{back-none, back-some}
-use Rattle.disk_layout.proofs.Tests.{failed, passed}
+use Rattle.refusals.proofs.Tests.{failed, passed}
 use Rattle.disk_layout.specs.Calls.{backCall}
 use Rattle.disk_layout.specs.DiskLayout.{blocksInRange}
 use Rattle.disk_layout.specs.JournalInterval.{ValidJournalInterval, interval}

@@ -1,7 +1,7 @@
 -- `journal_cyclic_interval_overlap` meets its contract: each return is the row of `overlapCall` that its tests lead to.
 -- Assumes nothing.
 use Rattle.disk_layout.proofs.Intervals.{range-facts}
-use Rattle.disk_layout.proofs.Tests.{failed, passed}
+use Rattle.refusals.proofs.Tests.{failed, passed}
 use Rattle.disk_layout.specs.Calls.{overlapCall}
 use Rattle.disk_layout.specs.DiskLayout.{blocksInRange}
 use Rattle.disk_layout.specs.JournalInterval.{ValidJournalInterval}

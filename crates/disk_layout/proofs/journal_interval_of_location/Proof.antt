@@ -2,7 +2,7 @@
 -- Assumes nothing.
 use Rattle.disk_layout.proofs.Intervals.{range-facts}
 use Rattle.disk_layout.proofs.Locations.{location-facts}
-use Rattle.disk_layout.proofs.Tests.{failed, passed}
+use Rattle.refusals.proofs.Tests.{failed, passed}
 use Rattle.disk_layout.specs.Calls.{intervalCall}
 use Rattle.disk_layout.specs.DiskLayout.{ValidJournalLocation, blocksInRange}
 use borrow.Author.Needs.{needs}

@@ -1,7 +1,7 @@
 -- `journal_point` meets its contract: each return is the row of `pointCall` that its tests lead to.
 -- Assumes nothing.
 use Rattle.disk_layout.proofs.Intervals.{range-facts}
-use Rattle.disk_layout.proofs.Tests.{failed, passed}
+use Rattle.refusals.proofs.Tests.{failed, passed}
 use Rattle.disk_layout.specs.Calls.{pointCall}
 use Rattle.disk_layout.specs.DiskLayout.{blocksInRange}
 use borrow.Author.Needs.{needs}

@@ -1,7 +1,7 @@
 -- `journal_range_location` meets its contract: each return is the row of `locationCall` that its tests lead to.
 -- Assumes nothing.
 use Rattle.disk_layout.proofs.Intervals.{contiguous-facts, range-facts}
-use Rattle.disk_layout.proofs.Tests.{failed, passed}
+use Rattle.refusals.proofs.Tests.{failed, passed}
 use Rattle.disk_layout.specs.Calls.{locationCall}
 use Rattle.disk_layout.specs.DiskLayout.{blocksInRange}
 use Rattle.disk_layout.specs.JournalInterval.{ContiguousJournalInterval}

@@ -1,7 +1,7 @@
 -- `lies_within` meets its contract: it tries the two ways of `subinterval` one after the other. No sum wraps, since both intervals are valid.
 -- Assumes nothing.
 use Rattle.disk_layout.proofs.Intervals.{BothValid, both-facts}
-use Rattle.disk_layout.proofs.Tests.{told}
+use Rattle.refusals.proofs.Tests.{told}
 use Rattle.disk_layout.specs.JournalInterval.{subinterval}
 use native.Mathlib.Omega.{arith}
 use Rattle.disk_layout.proofs.lies_within.Statement.{statement}

@@ -1,7 +1,7 @@
 -- `next_start_point` meets its contract: each return is the row of `nextStartCall`, and the case of `NextStartPoint`, that its tests lead to.
 -- Assumes nothing.
 use Rattle.disk_layout.proofs.Intervals.{range-facts, valid-facts}
-use Rattle.disk_layout.proofs.Tests.{failed, passed}
+use Rattle.refusals.proofs.Tests.{failed, passed}
 use Rattle.disk_layout.specs.Calls.{nextStartCall}
 use Rattle.disk_layout.specs.DiskLayout.{blocksInRange}
 use Rattle.disk_layout.specs.JournalInterval.{NextStartPoint, ValidJournalInterval}

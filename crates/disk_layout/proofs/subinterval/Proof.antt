@@ -1,7 +1,7 @@
 -- `subinterval` meets its contract: each return is the row of `subintervalCall` that its tests lead to.
 -- Assumes nothing.
 use Rattle.disk_layout.proofs.Intervals.{range-facts}
-use Rattle.disk_layout.proofs.Tests.{failed, passed}
+use Rattle.refusals.proofs.Tests.{failed, passed}
 use Rattle.disk_layout.specs.Calls.{subintervalCall}
 use Rattle.disk_layout.specs.DiskLayout.{blocksInRange}
 use Rattle.disk_layout.specs.JournalInterval.{ValidJournalInterval}

@@ -1,6 +1,6 @@
 -- `valid_interval` meets its contract: its two tests are those of `ValidJournalInterval`.
 -- Assumes nothing.
-use Rattle.disk_layout.proofs.Tests.{decides}
+use Rattle.refusals.proofs.Tests.{decides}
 use Rattle.disk_layout.specs.JournalInterval.{ValidJournalInterval}
 use Rattle.disk_layout.proofs.valid_interval.Statement.{statement}
 use Rattle.disk_layout.proofs.valid_interval.Tie as tie

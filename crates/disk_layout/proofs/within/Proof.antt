@@ -1,6 +1,6 @@
 -- `within` meets its contract: its two tests are those that the contract names.
 -- Assumes nothing.
-use Rattle.disk_layout.proofs.Tests.{decides}
+use Rattle.refusals.proofs.Tests.{decides}
 use borrow.Author.Needs.{needs}
 use Rattle.disk_layout.proofs.within.Statement.{statement}
 use Rattle.disk_layout.proofs.within.Tie as tie

@@ -1,6 +1,6 @@
 -- `wrapped_overlap` meets its contract: it tries the two parts of `wrappedOverlap` one after the other.
 -- Assumes nothing.
-use Rattle.disk_layout.proofs.Tests.{told}
+use Rattle.refusals.proofs.Tests.{told}
 use Rattle.disk_layout.specs.JournalInterval.{wrappedOverlap}
 use borrow.Author.Needs.{needs}
 use Rattle.disk_layout.proofs.wrapped_overlap.Statement.{statement}
