@@ -1,0 +1,84 @@
+// From an image back to payload: document 01, "Back to entries" (strip).
+// An image is whole blocks of 4,096 bytes: 32 of checksum, then 4,064 of payload.
+use refusals::Refusal;
+ghost use mathlib.Core.Path.{_≡_};
+ghost use mathlib.Core.List.{_++_};
+ghost use mathlib.Core.Option.{Option·getD};
+ghost use Prim.Native.Nat.{_*_, _≤_};
+ghost use lib.ListN.{length, drop};
+ghost use Rattle.journal_image.specs.Image.{ChecksumChecksOut, withoutChecksums, lowestDamaged};
+ghost use Rattle.journal_image.specs.Strip.{stripCall, strippedOutput, strippedOutcome};
+
+pub enum Stripped {
+    // so many blocks of payload were written
+    Blocks(usize),
+    // 12: the lowest block, counted from 0, whose checksum differs
+    ChecksumDiffers(usize),
+    // 11 or 9
+    Refused(Refusal),
+}
+
+// Whether a block's first 32 bytes are the checksum of its others. Bytes with no room for a checksum do not agree.
+pub fn block_agrees(block: &[u8]) -> bool
+    ensures { λ r. ⌜ r ≡ ChecksumChecksOut (now (block .entry)) ⌝ }
+{
+    if block.len() < 32 {
+        return false;
+    }
+    let sum = crc32c::checksum(&block[32..]);
+    check::same(&block[0..32], &sum)
+}
+
+// The lowest damaged one of so many blocks, or their number where none is.
+fn agreeing_blocks(image: &[u8], blocks: usize) -> usize
+    requires { ⌜ 4096 * blocks ≤ length (now image) ⌝ }
+    ensures { λ r. ⌜ r ≡ Option·getD (lowestDamaged blocks (now (image .entry))) blocks ⌝ }
+{
+    let mut k = 0;
+    while k < blocks {
+        let at = 4096 * k;
+        let end = at + 4096;
+        if !block_agrees(&image[at..end]) {
+            return k;
+        }
+        k += 1;
+    }
+    k
+}
+
+// Writes the payloads of so many blocks, each as one run.
+fn copy_payloads(image: &[u8], out: &mut [u8], blocks: usize)
+    requires { ⌜ 4096 * blocks ≤ length (now image) ⌝ }
+    requires { ⌜ 4064 * blocks ≤ length (now out) ⌝ }
+    ensures { λ _. ⌜ now (out .exit) ≡ withoutChecksums blocks (now (image .entry)) ++ drop (4064 * blocks) (now (out .entry)) ⌝ }
+{
+    let mut done = 0;
+    while done < blocks {
+        let from = 4096 * done + 32;
+        let end = from + 4064;
+        let at = 4064 * done;
+        let next = at + 4064;
+        bytes::copy(&image[from..end], &mut out[at..next]);
+        done += 1;
+    }
+}
+
+// Turns an image into payload. Nothing is written before every checksum has agreed.
+pub fn strip(image: &[u8], out: &mut [u8]) -> Stripped
+    ensures { λ r. ⌜ strippedOutcome r ≡ stripCall (now (image .entry)) (now (out .entry)) ⌝ }
+    ensures { λ _. ⌜ now (out .exit) ≡ strippedOutput (now (image .entry)) (now (out .entry)) ⌝ }
+{
+    if image.len() % 4096 != 0 {
+        return Stripped::Refused(Refusal::ImageNotWhole);
+    }
+    let blocks = image.len() / 4096;
+    if out.len() < 4064 * blocks {
+        return Stripped::Refused(Refusal::OutputTooShort);
+    }
+    let agreeing = agreeing_blocks(image, blocks);
+    if agreeing < blocks {
+        return Stripped::ChecksumDiffers(agreeing);
+    }
+    copy_payloads(image, out, blocks);
+    Stripped::Blocks(blocks)
+}

@@ -1,0 +1,9 @@
+pub mod Same
+pub mod Header
+pub mod Joining
+pub mod Payload
+pub mod Batches
+pub mod Bounds
+pub mod Totals
+pub mod Loading
+pub mod Answer

@@ -1,0 +1,144 @@
+"""Feeds images to the lister and compares what it prints, byte for byte, with what the reader says.
+
+python3 tests/lister_test.py PATH_TO_LISTER [--many N] [--seed S]
+
+Ends with status 1 at the first difference, with the image in target/ of the current directory, or if one of the
+outcomes was never seen.
+"""
+import argparse
+import collections
+import os
+import random
+import signal
+import subprocess
+import sys
+import tempfile
+import time
+
+sys.dont_write_bytecode = True      # nothing is left in the folder
+
+import images
+import reader
+import writer
+
+SECONDS = 60            # for one image
+OUTCOMES = ('entries', 'refused 11', 'refused 12', 'refused 13', 'refused 14')
+
+# RFC 3720, B.4
+VECTORS = [(bytes(32), 'aa36918a'), (b'\xff' * 32, '43aba862'), (bytes(range(32)), '4e79dd46'),
+           (bytes(range(31, -1, -1)), '5cdb3f11'),
+           (bytes.fromhex('01c00000000000000000000000000000140000000000040000000014000000182800000000000000'
+                          '0200000000000000'), '563a96d9')]
+
+
+def by_pipe(path, data, rng):
+    return subprocess.run([path], input=data, stdout=subprocess.PIPE)
+
+
+def by_file(path, data, rng):
+    with tempfile.TemporaryFile() as file:
+        file.write(data)
+        file.seek(0)
+        return subprocess.run([path], stdin=file, stdout=subprocess.PIPE)
+
+
+def by_pieces(path, data, rng):
+    """A pipe that gives few bytes at a time, the first one alone."""
+    cuts = sorted({0, 1, len(data)} | {rng.randint(0, len(data)) for _ in range(6)})
+    with subprocess.Popen([path], stdin=subprocess.PIPE, stdout=subprocess.PIPE, bufsize=0) as process:
+        try:
+            try:
+                for start, end in zip(cuts, cuts[1:]):
+                    process.stdin.write(data[start:end])
+                    time.sleep(0.002)
+            except BrokenPipeError:                     # it need not read what is over 61,440 bytes
+                pass
+            printed, _ = process.communicate()
+        except BaseException:
+            process.kill()
+            raise
+        return subprocess.CompletedProcess(path, process.returncode, printed)
+
+
+def feeding(number):
+    """How the image of this number is fed."""
+    return by_pieces if number % 41 == 5 else by_file if number % 4 == 3 else by_pipe
+
+
+def too_long(*_):
+    raise TimeoutError
+
+
+def shown(printed):
+    return repr(printed if len(printed) <= 300 else printed[:150] + b' .. ' + printed[-150:])
+
+
+def first_difference(one, other):
+    return next((at for at in range(min(len(one), len(other))) if one[at] != other[at]), min(len(one), len(other)))
+
+
+def fail(number, image, message):
+    os.makedirs('target', exist_ok=True)
+    path = os.path.join('target', 'lister-difference.image')
+    with open(path, 'wb') as file:
+        file.write(image.data)
+    print('lister_test: image %d, %s, %d bytes, kept as %s' % (number, image.kind, len(image.data), path))
+    sys.exit('lister_test: FAILED: ' + message)
+
+
+def compare(path, number, image, rng):
+    """Feeds one image; returns the outcome."""
+    wanted = reader.listing(image.data)
+    if image.known is not None and image.known != wanted:
+        fail(number, image, 'the reader says %s, the image was made for %s' % (shown(wanted), shown(image.known)))
+    feed = feeding(number)
+    signal.alarm(SECONDS)
+    try:
+        ended = feed(path, image.data, rng)
+    except TimeoutError:
+        fail(number, image, 'no end after %d s (%s)' % (SECONDS, feed.__name__))
+    finally:
+        signal.alarm(0)
+    if ended.stdout != wanted:
+        fail(number, image, 'printed (%s) %s\nthe reader says %s\nthey differ from byte %d on' % (
+            feed.__name__, shown(ended.stdout), shown(wanted), first_difference(ended.stdout, wanted)))
+    if ended.returncode < 0:
+        fail(number, image, 'ended by signal %d (%s)' % (-ended.returncode, feed.__name__))
+    words = wanted.split(None, 2)
+    return 'entries' if words[0] == b'entries' else b' '.join(words[:2]).decode()
+
+
+def main():
+    parser = argparse.ArgumentParser(description='Compares the lister with the reader.')
+    parser.add_argument('lister', metavar='PATH_TO_LISTER')
+    images.arguments(parser)
+    given = parser.parse_args()
+    path = os.path.abspath(given.lister)
+    if not os.access(path, os.X_OK):
+        sys.exit('lister_test: FAILED: no program ' + given.lister)
+    for data, crc in VECTORS:
+        for crc32c in (reader.crc32c, writer.crc32c):
+            if crc32c(data).to_bytes(4, 'little').hex() != crc:
+                sys.exit('lister_test: FAILED: %s.crc32c of %s' % (crc32c.__module__, data.hex()))
+
+    signal.signal(signal.SIGALRM, too_long)
+    rng = random.Random(given.seed)
+    kinds, outcomes, fed = (collections.Counter() for _ in range(3))
+    began = time.monotonic()
+    for made in (images.gate(given.seed), images.many(given.many, given.seed)):
+        for image in made:
+            number = sum(kinds.values())
+            outcomes[compare(path, number, image, rng)] += 1
+            kinds[image.kind] += 1
+            fed[feeding(number).__name__.replace('_', ' ')] += 1
+
+    for title, counter in (('kinds', kinds), ('outcomes', outcomes), ('fed', fed)):
+        print('lister_test: %s: %s' % (title, ', '.join('%s %d' % item for item in sorted(counter.items()))))
+    unseen = [outcome for outcome in OUTCOMES if not outcomes[outcome]]
+    if unseen:
+        sys.exit('lister_test: FAILED: never seen: ' + ', '.join(unseen))
+    print('lister_test: %d images, no difference, %d s' % (sum(kinds.values()), time.monotonic() - began))
+
+
+if __name__ == '__main__':
+    main()
