@@ -6,6 +6,8 @@ pub mod raw {
     extern "C" {
         pub fn journal_crc32c(s: *const u8, s_len: usize) -> u32;
         pub fn journal_checksum(s: *const u8, s_len: usize, out: *mut u8, out_len: usize) -> u64;
+        pub fn journal_strip(image: *const u8, image_len: usize, out: *mut u8, out_len: usize) -> u64;
+        pub fn journal_range(front: *const u8, front_len: usize, back: *const u8, back_len: usize, totals: *mut u64, totals_len: usize) -> u64;
     }
 }
 
@@ -18,4 +20,21 @@ pub fn crc32c(s: &[u8]) -> u32 {
 
 pub fn checksum(s: &[u8], out: &mut [u8]) -> u64 {
     unsafe { raw::journal_checksum(s.as_ptr(), s.len(), out.as_mut_ptr(), out.len()) }
+}
+
+pub fn strip(image: &[u8], out: &mut [u8]) -> u64 {
+    unsafe { raw::journal_strip(image.as_ptr(), image.len(), out.as_mut_ptr(), out.len()) }
+}
+
+pub fn range(front: &[u8], back: &[u8], totals: &mut [u64]) -> u64 {
+    unsafe {
+        raw::journal_range(
+            front.as_ptr(),
+            front.len(),
+            back.as_ptr(),
+            back.len(),
+            totals.as_mut_ptr(),
+            totals.len(),
+        )
+    }
 }

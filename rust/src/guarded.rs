@@ -43,8 +43,24 @@ impl Guarded {
         }
     }
 
+    /// Holds a copy of `s` instead. Pages are mapped anew only where there are too few.
+    pub fn hold(&mut self, s: &[u8]) {
+        if s.len() > self.open {
+            *self = Guarded::new(s.len());
+        }
+        self.len = s.len();
+        self.bytes().copy_from_slice(s);
+    }
+
     pub fn bytes(&mut self) -> &mut [u8] {
         unsafe { from_raw_parts_mut(self.pages.as_ptr().add(self.open - self.len), self.len) }
+    }
+
+    /// The same, as words of eight bytes: the length is a multiple of that.
+    pub fn words(&mut self) -> &mut [u64] {
+        let (before, words, after) = unsafe { self.bytes().align_to_mut() };
+        assert!(before.is_empty() && after.is_empty(), "not whole words");
+        words
     }
 }
 
@@ -62,8 +78,10 @@ fn the_guard_holds() {
         fn write(fd: i32, from: *const u8, n: usize) -> isize;
     }
     let (_reader, writer) = std::io::pipe().unwrap();
-    for len in [1, 8, PAGE - 1, PAGE, PAGE + 1] {
-        let mut guarded = Guarded::new(len);
+    let mut guarded = Guarded::new(0);
+    for len in [8, 1, PAGE, PAGE + 1, PAGE - 1] {
+        guarded.hold(&vec![7; len]);
+        assert_eq!(guarded.bytes(), vec![7; len]);
         let end = guarded.bytes().as_ptr_range().end;
         unsafe {
             assert_eq!(write(writer.as_raw_fd(), end.sub(1), 1), 1, "the last of {len}");

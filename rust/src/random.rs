@@ -10,9 +10,24 @@ impl Random {
         z ^ (z >> 31)
     }
 
+    /// One of 0 to `n - 1`.
+    pub fn below(&mut self, n: usize) -> usize {
+        (self.word() % n as u64) as usize
+    }
+
+    pub fn one_of<T: Copy>(&mut self, s: &[T]) -> T {
+        s[self.below(s.len())]
+    }
+
     pub fn fill(&mut self, s: &mut [u8]) {
         for part in s.chunks_mut(8) {
             part.copy_from_slice(&self.word().to_le_bytes()[..part.len()]);
         }
+    }
+
+    pub fn bytes(&mut self, len: usize) -> Vec<u8> {
+        let mut s = vec![0; len];
+        self.fill(&mut s);
+        s
     }
 }

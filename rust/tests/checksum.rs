@@ -1,10 +1,7 @@
 //! The checksum's calls against RFC 3720's vectors and the model, bit by bit.
+use journal_tests::model::block::{self, HEAD, PAYLOAD};
 use journal_tests::{calls, guarded::Guarded, model::crc, random::Random};
 use std::ops::RangeInclusive;
-
-/// A block is 4,096 bytes: a head of 32 and a payload.
-const PAYLOAD: usize = 4_064;
-const HEAD: usize = 32;
 
 /// RFC 3720's SCSI Read (10) command, section B.4.
 const READ_COMMAND: [u8; 48] = [
@@ -26,7 +23,7 @@ fn same_head(s: &[u8], room: usize, call: impl Fn(&[u8], &mut [u8]) -> u64) -> b
     got.bytes().fill(0xA5);
     let mut wanted = got.bytes().to_vec();
     let answer = call(s, &mut got.bytes()[BEFORE..]);
-    answer == crc::checksum(s, &mut wanted[BEFORE..]) && got.bytes() == wanted
+    answer == block::checksum(s, &mut wanted[BEFORE..]) && got.bytes() == wanted
 }
 
 fn random(seed: u64, len: usize) -> Guarded {

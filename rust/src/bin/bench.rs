@@ -1,9 +1,13 @@
 //! The exported functions beside plain Rust ones: a benchmark, never a test. In one run the rounds of
 //! all ways to do a case's work take turns, so that a busy machine slows each of them alike.
 //!
-//! `bench [ROUNDS [CASE]]` makes so many rounds (else 21) of the cases whose name has CASE in it. It
+//! `bench [ROUNDS [CASE]]` makes so many rounds (else 21) of the cases whose name starts with CASE. It
 //! prints each way's speed, by its best and its middle round, and Rattle's speed as a multiple of it.
-use journal_tests::{calls, model::crc, random::Random};
+use journal_tests::model::block::{self, BLOCK, PAYLOAD};
+use journal_tests::model::writing::{self, Entry};
+use journal_tests::model::{crc, reading};
+use journal_tests::{calls, random::Random};
+use std::cell::{OnceCell, RefCell};
 use std::hint::black_box;
 use std::time::Instant;
 
@@ -22,13 +26,13 @@ struct Way<'a> {
 
 struct Timed {
     seconds: f64,
-    /// What the work gave, which must be the same in every round of every way.
-    given: u64,
+    /// What the work gave, which must be the same in every round of every way that gives something.
+    given: Option<u64>,
 }
 
 fn timed(work: impl FnOnce() -> u64) -> Timed {
     let began = Instant::now();
-    let given = black_box(work());
+    let given = Some(black_box(work()));
     Timed { seconds: began.elapsed().as_secs_f64(), given }
 }
 
@@ -59,6 +63,110 @@ fn over_pieces(buffer: &[u8], piece: usize, function: Crc) -> u64 {
     crcs.fold(0, |sum: u64, crc| sum.rotate_left(1) ^ u64::from(crc))
 }
 
+/// The blocks of each image below.
+const BLOCKS: usize = 1_024;
+
+/// An image of ranges, which is made when a case first needs it.
+struct Ranges {
+    /// Those of each range. They are full of entries.
+    blocks: usize,
+    /// No entry has more first or second bytes than one of these, chosen for it.
+    most: &'static [usize],
+    made: OnceCell<Made>,
+}
+
+struct Made {
+    image: Vec<u8>,
+    payload: Vec<u8>,
+    /// Where the payload is put; it is cleared before each round.
+    out: RefCell<Vec<u8>>,
+}
+
+/// What is done to a range: to its image, its payload, and where that is put.
+type Work = fn(&[u8], &[u8], &mut [u8]) -> u64;
+
+impl Ranges {
+    fn new(blocks: usize, most: &'static [usize]) -> Self {
+        Ranges { blocks, most, made: OnceCell::new() }
+    }
+
+    fn make(&self) -> Made {
+        let random = &mut Random(1);
+        let mut next = || {
+            let most = random.one_of(self.most);
+            Entry::random(random, most)
+        };
+        let batch = |_| writing::full_batch(self.blocks, &mut next);
+        let payload: Vec<u8> = (0..BLOCKS / self.blocks).flat_map(batch).collect();
+        let image = writing::image(&payload);
+        let out = RefCell::new(vec![0; payload.len()]);
+        Made { image, payload, out }
+    }
+
+    /// A round of the work, done to one range after the other.
+    fn round(&self, work: Work) -> Timed {
+        let Made { image, payload, out } = self.made.get_or_init(|| self.make());
+        let mut out = out.borrow_mut();
+        out.fill(0);
+        timed(|| {
+            let images = black_box(image).chunks(BLOCK * self.blocks);
+            let payloads = black_box(payload).chunks(PAYLOAD * self.blocks);
+            let ranges = images.zip(payloads).zip(out.chunks_mut(PAYLOAD * self.blocks));
+            ranges.map(|((image, payload), out)| work(image, payload, out)).sum()
+        })
+    }
+
+    /// The third way, a limit for the others, is to copy the payload.
+    fn case(&self, name: &str, rattle: Work, rust: Work) -> Case<'_> {
+        let copy: Work = |_, payload, out| {
+            out.copy_from_slice(payload);
+            0
+        };
+        let copied = move || Timed { given: None, ..self.round(copy) };
+        Case {
+            name: format!("{name} {}", self.blocks),
+            bytes: PAYLOAD * BLOCKS,
+            ways: vec![
+                Way { name: "rattle", round: Box::new(move || self.round(rattle)) },
+                Way { name: "rust", round: Box::new(move || self.round(rust)) },
+                Way { name: "memcpy", round: Box::new(copied) },
+            ],
+        }
+    }
+
+    fn strip(&self) -> Case<'_> {
+        self.case(
+            "strip",
+            |image, _, out| calls::strip(image, out),
+            |image, _, out| block::strip(image, out),
+        )
+    }
+
+    fn range(&self, name: &str) -> Case<'_> {
+        self.case(
+            name,
+            |_, payload, _| totals(calls::range, payload),
+            |_, payload, _| totals(reading::range, payload),
+        )
+    }
+
+    fn strip_and_range(&self) -> Case<'_> {
+        self.case(
+            "strip+range",
+            |image, _, out| calls::strip(image, out) + totals(calls::range, out),
+            |image, _, out| block::strip(image, out) + totals(reading::range, out),
+        )
+    }
+}
+
+/// What is read of a range, in one number. Half of its blocks are lent as front.
+fn totals(range: fn(&[u8], &[u8], &mut [u64]) -> u64, payload: &[u8]) -> u64 {
+    let (front, back) = payload.split_at(payload.len() / PAYLOAD / 2 * PAYLOAD);
+    let mut totals = [0; 2];
+    let answer = range(front, back, &mut totals);
+    answer + (totals[0] << 8) + (totals[1] << 32)
+}
+
 /// The best and the middle of each way's rounds, in seconds.
 fn measured(case: &mut Case, rounds: usize) -> Vec<[f64; 2]> {
     let n = case.ways.len();
@@ -68,8 +176,10 @@ fn measured(case: &mut Case, rounds: usize) -> Vec<[f64; 2]> {
         // another way goes first in each round
         for k in (0..n).map(|k| (round + k) % n) {
             let timed = (case.ways[k].round)();
-            let wanted = *wanted.get_or_insert(timed.given);
-            assert_eq!(timed.given, wanted, "{}, {}", case.name, case.ways[k].name);
+            if let Some(given) = timed.given {
+                let wanted = *wanted.get_or_insert(given);
+                assert_eq!(given, wanted, "{}, {}", case.name, case.ways[k].name);
+            }
             seconds[k].push(timed.seconds);
         }
     }
@@ -86,17 +196,23 @@ fn main() {
 
     let mut buffer = vec![0; 8 << 20];
     Random(1).fill(&mut buffer);
-    let cases = crc_cases(&buffer);
+    let mixed = [1, 16, 256, 1_024].map(|blocks| Ranges::new(blocks, &[3, 40, 1_024]));
+    let tiny = Ranges::new(1_024, &[3]);
+    let mut cases = crc_cases(&buffer);
+    cases.extend(mixed.iter().map(Ranges::strip));
+    cases.extend(mixed.iter().map(|ranges| ranges.range("range")));
+    cases.push(tiny.range("range tiny"));
+    cases.extend(mixed.iter().map(Ranges::strip_and_range));
 
-    println!("                                    MB/s          rattle / this");
-    println!("case            way             best  middle      best  middle");
-    for mut case in cases.into_iter().filter(|case| case.name.contains(only)) {
+    println!("                                     MB/s          rattle / this");
+    println!("case             way             best  middle      best  middle");
+    for mut case in cases.into_iter().filter(|case| case.name.starts_with(only)) {
         let times = measured(&mut case, rounds);
         for (way, time) in case.ways.iter().zip(&times) {
             let [best, middle] = time.map(|seconds| case.bytes as f64 / seconds / 1e6);
             let [than_best, than_middle] = [0, 1].map(|i| time[i] / times[0][i]);
             println!(
-                "{:15} {:12} {best:7.0} {middle:7.0}   {than_best:7.3} {than_middle:7.3}",
+                "{:16} {:12} {best:7.0} {middle:7.0}   {than_best:7.3} {than_middle:7.3}",
                 case.name, way.name
             );
         }

@@ -2,9 +2,13 @@
 //! and the lowest byte that is no longer paint says how deep it went. The return address and the
 //! words passed on the stack are in the figure; what is reserved and never written is not.
 //!
-//! `stack [--at-most N]` fails where a function uses more than N bytes, and where it uses more, or
-//! less, at a very large input than at one block's payload.
+//! `stack` fails where a function uses more, or less, at a very large input than at a small one.
+//! `stack --check` fails also where one uses more bytes than its limit, and `stack --at-most N` where
+//! one of the two checksum calls uses more than N.
 use journal_tests::calls::raw;
+use journal_tests::model::block::{BLOCK, PAYLOAD};
+use journal_tests::model::writing::{self, Entry};
+use journal_tests::random::Random;
 use std::arch::{asm, naked_asm};
 use std::process::ExitCode;
 
@@ -95,51 +99,105 @@ fn check_itself() {
     assert_eq!(used(digits as *const (), &[1, 2, 3, 4, 5, 6, 7, 8, 9]).1, 123_456_789);
 }
 
-/// A function, and the words of its call at an input of so many bytes.
-struct Call<'a> {
+/// A function, the most bytes of stack that it may use, and calls of it: what each is of, and its
+/// words. The last two do the same to a little and to very much; there the figures must be equal.
+struct Row {
     name: &'static str,
     function: *const (),
-    words: &'a dyn Fn(u64) -> Vec<u64>,
+    limit: usize,
+    calls: Vec<(String, Vec<u64>)>,
 }
 
-/// The last two are a block's payload and a very large input: there the figures must be equal.
-const SIZES: [usize; 4] = [0, 15, 4_064, 16 << 20];
+/// The blocks of a very large input: as many as front and back may have together.
+const MANY: usize = 2_048;
+
+/// A slice as C gets it: a pointer and a count.
+fn lent<T>(s: &[T]) -> [u64; 2] {
+    [s.as_ptr() as u64, s.len() as u64]
+}
+
+fn filled<T>(s: &mut [T]) -> [u64; 2] {
+    [s.as_mut_ptr() as u64, s.len() as u64]
+}
 
 fn main() -> ExitCode {
     let words: Vec<String> = std::env::args().skip(1).collect();
-    let at_most = match &words[..] {
-        [] => usize::MAX,
-        [flag, n] if flag == "--at-most" => n.parse().expect("N is a number of bytes"),
-        _ => panic!("usage: stack [--at-most N]"),
+    let words: Vec<&str> = words.iter().map(String::as_str).collect();
+    // the most bytes of stack for the checksum calls, and for each other
+    let [checksums, others] = match words[..] {
+        [] => [usize::MAX; 2],
+        ["--check"] => [512, 2_048],
+        ["--at-most", n] => [n.parse().expect("N is a number of bytes"), usize::MAX],
+        _ => panic!("usage: stack [--check | --at-most N]"),
     };
     check_itself();
 
-    let payload = vec![0x5A_u8; SIZES[3]];
-    let mut head = [0_u8; 32];
-    let (s, out) = (payload.as_ptr() as u64, head.as_mut_ptr() as u64);
-    let calls = [
-        Call {
+    // tiny entries: in one batch, and in a batch for each block, which the image has too
+    let mut random = Random(1);
+    let mut tiny = |blocks| writing::full_batch(blocks, || Entry::random(&mut random, 3));
+    let in_one = [1, 4, MANY].map(&mut tiny);
+    let in_each = (0..MANY).flat_map(|_| tiny(1)).collect::<Vec<u8>>();
+    let image = writing::image(&in_each);
+    let mut out = vec![0_u8; in_each.len()];
+    let mut totals = [0_u64; 2];
+    let (out, totals) = (filled(&mut out), filled(&mut totals));
+
+    let bytes = [0, 15, PAYLOAD, image.len()];
+    let blocks = [0, 1, 4, MANY];
+    let range = |payload: &[u8], what: &str| {
+        let (front, back) = payload.split_at(payload.len() / 2);
+        let what = format!("{} blocks, {what}", payload.len() / PAYLOAD);
+        (what, [lent(front), lent(back), totals].concat())
+    };
+    let table = [
+        Row {
             name: "journal_crc32c",
             function: raw::journal_crc32c as *const (),
-            words: &|n| vec![s, n],
+            limit: checksums,
+            calls: bytes.map(|n| (format!("{n} bytes"), lent(&image[..n]).into())).into(),
         },
-        Call {
+        Row {
             name: "journal_checksum",
             function: raw::journal_checksum as *const (),
-            words: &|n| vec![s, n, out, 32],
+            limit: checksums,
+            calls: bytes.map(|n| (format!("{n} bytes"), [lent(&image[..n]), out].concat())).into(),
+        },
+        Row {
+            name: "journal_strip",
+            function: raw::journal_strip as *const (),
+            limit: others,
+            calls: blocks
+                .map(|n| (format!("{n} blocks"), [lent(&image[..BLOCK * n]), out].concat()))
+                .into(),
+        },
+        Row {
+            name: "journal_range",
+            function: raw::journal_range as *const (),
+            limit: others,
+            calls: in_one.each_ref().map(|payload| range(payload, "one batch")).into(),
+        },
+        Row {
+            name: "journal_range",
+            function: raw::journal_range as *const (),
+            limit: others,
+            calls: blocks.map(|n| range(&in_each[..PAYLOAD * n], "a batch each")).into(),
         },
     ];
     let mut within = true;
-    for Call { name, function, words } in calls {
-        let figures = SIZES.map(|n| used(function, &words(n as u64)).0);
-        for (n, bytes) in SIZES.iter().zip(figures) {
-            println!("stack: {bytes:5} bytes, {name} of {n} bytes");
-            if bytes > at_most {
-                println!("stack: more than {at_most}");
+    for Row { name, function, limit, calls } in table {
+        let mut figures = Vec::new();
+        for (what, words) in calls {
+            let (bytes, answer) = used(function, &words);
+            assert!(answer == 0 || name == "journal_crc32c", "{name} of {what} gives {answer}");
+            println!("stack: {bytes:5} bytes, {name} of {what}");
+            if bytes > limit {
+                println!("stack: more than {limit}");
                 within = false;
             }
+            figures.push(bytes);
         }
-        if figures[2] != figures[3] {
+        let [.., few, many] = figures[..] else { unreachable!("two calls at least") };
+        if few != many {
             println!("stack: {name} differs at a very large input");
             within = false;
         }

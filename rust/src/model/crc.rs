@@ -88,14 +88,3 @@ fn by_instruction(s: &[u8]) -> u32 {
     });
     !rest.iter().fold(register as u32, |register, byte| _mm_crc32_u8(register, *byte))
 }
-
-/// The head of a block with payload `s`: its CRC-32C, lowest byte first, and 28 zeros. An `out`
-/// too short for it is refused with 9.
-pub fn checksum(s: &[u8], out: &mut [u8]) -> u64 {
-    let Some(head) = out.first_chunk_mut::<32>() else {
-        return 9;
-    };
-    *head = [0; 32];
-    head[..4].copy_from_slice(&bit_by_bit(s).to_le_bytes());
-    0
-}

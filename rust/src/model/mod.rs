@@ -1,3 +1,6 @@
 //! What the exported functions do, written separately from the documents: nothing is shared with
 //! the Rattle crates.
+pub mod block;
 pub mod crc;
+pub mod reading;
+pub mod writing;

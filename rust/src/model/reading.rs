@@ -1,0 +1,89 @@
+//! A range: payload blocks, which are read batch by batch. A batch starts with two words, the number
+//! of its entries and that of its blocks; its entries follow, and what is behind the last is ignored.
+use super::block::PAYLOAD;
+
+/// The most first bytes of an entry, and the most second bytes of an insert and of a clone.
+pub const FIRST: u32 = 512;
+pub const INSERTED: u32 = 1_024;
+pub const CLONED: u32 = 512;
+
+/// What is added to a clone's first length.
+pub const CLONE: u32 = 4_096;
+
+/// The entries of `front` and `back`, one behind the other, and the bytes of their wire forms, to
+/// the first two of `totals`. Refused with 14 where they don't read, then with 9 where `totals` is
+/// too short.
+#[inline(never)]
+pub fn range(front: &[u8], back: &[u8], totals: &mut [u64]) -> u64 {
+    let Some(read) = (Joined { front, back }).read() else {
+        return 14;
+    };
+    let Some(totals) = totals.first_chunk_mut() else {
+        return 9;
+    };
+    *totals = read;
+    0
+}
+
+/// Front and back as one: a place is counted from front's start.
+struct Joined<'a> {
+    front: &'a [u8],
+    back: &'a [u8],
+}
+
+impl Joined<'_> {
+    fn read(&self) -> Option<[u64; 2]> {
+        let len = self.front.len() + self.back.len();
+        if !len.is_multiple_of(PAYLOAD) {
+            return None;
+        }
+        let mut totals = [0; 2];
+        let mut start = 0;
+        while start < len {
+            let entries = self.word(start, len)?;
+            let blocks = self.word(start + 4, len)?;
+            let end = start + PAYLOAD * blocks as usize;
+            if blocks == 0 || end > len {
+                return None;
+            }
+            let forms = start + 8;
+            let mut at = forms;
+            for _ in 0..entries {
+                at = self.after_entry(at, end)?;
+            }
+            totals[0] += u64::from(entries);
+            totals[1] += (at - forms) as u64;
+            start = end;
+        }
+        Some(totals)
+    }
+
+    /// The place behind the entry at `at`, if it is one and ends by `end`.
+    fn after_entry(&self, at: usize, end: usize) -> Option<usize> {
+        let word = self.word(at, end)?;
+        let (first, limit) = if word < CLONE { (word, INSERTED) } else { (word - CLONE, CLONED) };
+        if first > FIRST {
+            return None;
+        }
+        let at = at + 4 + first as usize;
+        let second = self.word(at, end)?;
+        let after = at + 4 + second as usize;
+        (second <= limit && after <= end).then_some(after)
+    }
+
+    /// The word at `at`, lowest byte first, if it ends by `end`.
+    fn word(&self, at: usize, end: usize) -> Option<u32> {
+        if at + 4 > end {
+            return None;
+        }
+        let word = if at >= self.front.len() {
+            *self.back[at - self.front.len()..].first_chunk()?
+        } else if let Some(word) = self.front[at..].first_chunk() {
+            *word
+        } else {
+            let mut bytes = self.front[at..].iter().chain(self.back);
+            [0; 4].map(|_| *bytes.next().unwrap())
+        };
+        Some(u32::from_le_bytes(word))
+    }
+}

@@ -1,0 +1,67 @@
+//! A writer of batches and images for the tests. What it is given is not held to the limits.
+use super::block::{head, PAYLOAD};
+use super::crc;
+use super::reading::{CLONE, CLONED, FIRST, INSERTED};
+use crate::random::Random;
+
+/// An insert (key, value) or a clone (from, to).
+pub struct Entry {
+    pub is_clone: bool,
+    pub first: Vec<u8>,
+    pub second: Vec<u8>,
+}
+
+impl Entry {
+    /// One of either kind, within the limits, neither of its two longer than `most`.
+    pub fn random(random: &mut Random, most: usize) -> Self {
+        let is_clone = random.below(2) == 1;
+        let second = if is_clone { CLONED } else { INSERTED };
+        let [first, second] = [FIRST, second].map(|limit| {
+            let len = random.below(most.min(limit as usize) + 1);
+            random.bytes(len)
+        });
+        Entry { is_clone, first, second }
+    }
+
+    /// The bytes of its wire form.
+    pub fn weight(&self) -> usize {
+        8 + self.first.len() + self.second.len()
+    }
+
+    pub fn wire_form(&self) -> Vec<u8> {
+        let kind = if self.is_clone { CLONE } else { 0 };
+        let first = kind + self.first.len() as u32;
+        let second = self.second.len() as u32;
+        [&first.to_le_bytes()[..], &self.first, &second.to_le_bytes(), &self.second].concat()
+    }
+}
+
+/// The payload of a batch: as few blocks as hold it, and `more`.
+pub fn batch(entries: &[Entry], more: usize) -> Vec<u8> {
+    let forms: Vec<u8> = entries.iter().flat_map(Entry::wire_form).collect();
+    let blocks = (8 + forms.len()).div_ceil(PAYLOAD) + more;
+    let header = [entries.len(), blocks].map(|n| (n as u32).to_le_bytes());
+    let mut payload = [header.as_flattened(), &forms].concat();
+    payload.resize(PAYLOAD * blocks, 0);
+    payload
+}
+
+/// The payload of a batch of so many blocks: entries from `next`, until one finds no room.
+pub fn full_batch(blocks: usize, mut next: impl FnMut() -> Entry) -> Vec<u8> {
+    let mut entries = Vec::new();
+    let mut room = PAYLOAD * blocks - 8;
+    loop {
+        let entry = next();
+        let Some(left) = room.checked_sub(entry.weight()) else {
+            return batch(&entries, 0);
+        };
+        room = left;
+        entries.push(entry);
+    }
+}
+
+/// The image with this payload: a head before that of each block.
+pub fn image(payload: &[u8]) -> Vec<u8> {
+    let block = |s: &[u8]| [&head(crc::bit_by_bit(s)), s].concat();
+    payload.chunks(PAYLOAD).flat_map(block).collect()
+}
