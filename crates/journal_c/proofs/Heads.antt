@@ -8,8 +8,8 @@ use lib.Seq.{take-length}
 use Rattle.crc32c.specs.Crc32c.{checksumBytes}
 use Rattle.crc32c.proofs.Range.{length-checksumBytes}
 use Rattle.refusals.specs.Outcome.{Outcome, gives, refuses}
-use Rattle.journal_c.specs.Numbers.{codeOf}
-use Rattle.journal_c.specs.Checksum.{checksumCall, outputAfter}
+use Rattle.journal_c.specs.Numbers.{codeOf, outputAfter}
+use Rattle.journal_c.specs.Checksum.{checksumCall}
 
 -- the outcome settles the number and the lent output
 settles : (call : Outcome (List ℕ)) (outcome : Outcome (List ℕ)) (out : List ℕ) → call ≡ outcome

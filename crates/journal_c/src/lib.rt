@@ -1,8 +1,13 @@
 // The journal for C and Rust: numbers and lent slices only. A call gives 0, or the number of its refusal.
 ghost use mathlib.Core.Path.{_≡_};
+ghost use mathlib.Core.List.{_++_};
 ghost use Rattle.crc32c.specs.Crc32c.{crc32cOf};
-ghost use Rattle.journal_c.specs.Numbers.{codeOf};
-ghost use Rattle.journal_c.specs.Checksum.{checksumCall, outputAfter};
+ghost use Rattle.journal_image.specs.Strip.{stripCall, strippedOutput};
+ghost use Rattle.journal_c.specs.Numbers.{codeOf, outputAfter};
+ghost use Rattle.journal_c.specs.Checksum.{checksumCall};
+ghost use Rattle.journal_c.specs.Totals.{totalsCall};
+use journal_image::Stripped;
+use journal_range::RangeRead;
 use refusals::Refusal;
 
 // CRC-32C of s.
@@ -25,4 +30,38 @@ pub extern "C" fn journal_checksum(s: &[u8], out: &mut [u8]) -> u64
     let head = crc32c::checksum(s);
     bytes::copy(&head, out);
     0
+}
+
+// The payload of an image's blocks to out, if every checksum agrees: 11, 9, or 12 with 256 times the lowest damaged block.
+#[no_mangle]
+pub extern "C" fn journal_strip(image: &[u8], out: &mut [u8]) -> u64
+    ensures { λ r. ⌜ r ≡ codeOf (stripCall (now (image .entry)) (now (out .entry))) ⌝ }
+    ensures { λ _. ⌜ now (out .exit) ≡ strippedOutput (now (image .entry)) (now (out .entry)) ⌝ }
+{
+    let stripped = journal_image::strip(image, out);
+    match stripped {
+        Stripped::Blocks(_) => 0,
+        Stripped::ChecksumDiffers(block) => 12 + 256 * block as u64,
+        Stripped::Refused(why) => refusals::number(why),
+    }
+}
+
+// How many entries front and back together read as, and the bytes of their wire forms, to totals: 14, or 9 where it has fewer than two words.
+#[no_mangle]
+pub extern "C" fn journal_range(front: &[u8], back: &[u8], totals: &mut [u64]) -> u64
+    ensures { λ r. ⌜ r ≡ codeOf (totalsCall (now (front .entry) ++ now (back .entry)) (now (totals .entry))) ⌝ }
+    ensures { λ _. ⌜ now (totals .exit) ≡ outputAfter (now (totals .entry)) (totalsCall (now (front .entry) ++ now (back .entry)) (now (totals .entry))) ⌝ }
+{
+    let read = journal_range::range_in(front, back);
+    match read {
+        RangeRead::Unreadable => refusals::number(Refusal::Unreadable),
+        RangeRead::Read { entries, bytes } => {
+            if totals.len() < 2 {
+                return refusals::number(Refusal::OutputTooShort);
+            }
+            totals[0] = entries as u64;
+            totals[1] = bytes as u64;
+            0
+        }
+    }
 }

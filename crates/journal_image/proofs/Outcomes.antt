@@ -13,6 +13,7 @@ use Rattle.journal_image.specs.Image.{withoutChecksums, lowestDamaged}
 use Rattle.journal_image.specs.Strip.{unlessDamaged, stripCall, outputOf, strippedOutput, strippedOutcome}
 use Rattle.journal_image.specs.declared.Stripped.{Stripped}
 use Rattle.journal_image.proofs.Payloads.{length-without}
+use Rattle.journal_image.proofs.Damaged.{lowest-told}
 
 module _ (image out : List ℕ) where
   pub strip-11 : (length image % 4096 ≡ 0 → ⊥) → stripCall image out ≡ refuses 11
@@ -92,3 +93,11 @@ length-output image out = from (stripCall image out) refl
         let g = given-told image out n e in
         let w : length (withoutChecksums n image) ≡ 4064 * n = length-without n image (omega arith) in
         ap length (output-of image out (gives n) e) ∙ rw (length-append, length-drop) (omega arith)
+
+-- what a call's promise says of an answer that was matched
+pub answer-told : {o : Outcome ℕ} {r s : Stripped} → strippedOutcome r ≡ o → r ≡ s → o ≡ strippedOutcome s
+answer-told e is = sym e ∙ ap strippedOutcome is
+
+-- 12's block is one of the image's
+pub named-below : (image out : List ℕ) (n i : ℕ) → stripCall image out ≡ refusesBlock n i → i < length image / 4096
+named-below image out n i e = lowest-told (length image / 4096) image (some i) (named-told image out n i e .1) .0

@@ -15,8 +15,7 @@ use Rattle.journal_entry.proofs.Options.{provided-parts}
 use Rattle.journal_range.specs.Payload.{parsePayload, rangeOf}
 use Rattle.journal_range.proofs.Bounds.{payload-weighs}
 use Rattle.journal_image.specs.Image.{withoutChecksums}
-use Rattle.journal_image.specs.Strip.{stripCall, strippedOutput, strippedOutcome}
-use Rattle.journal_image.specs.declared.Stripped.{Stripped}
+use Rattle.journal_image.specs.Strip.{stripCall, strippedOutput}
 use Rattle.journal_image.proofs.Outcomes.{Given, given-told, output-of}
 use Rattle.journal_image.proofs.Payloads.{length-without}
 use Rattle.listing.specs.Text.{entriesText, refusedText}
@@ -24,10 +23,6 @@ use Rattle.listing.specs.Listing.{written, writtenIn, listedRefusal}
 use Rattle.listing.specs.declared.Listed.{Listed}
 use Rattle.listing.specs.declared.Listed.the-variants.{Short}
 use Rattle.lister.specs.Lister.{andThen, stripped, unlessUnreadable, imageEntries, outcomeText, listing, roomSuffices, listedRange, listedPayload, listedImage}
-
--- what strip's promise says of an answer that was told
-pub told : {o : Outcome ℕ} {r s : Stripped} → strippedOutcome r ≡ o → r ≡ s → o ≡ strippedOutcome s
-told e is = sym e ∙ ap strippedOutcome is
 
 -- ---- lent buffers that are too short
 

@@ -3,8 +3,8 @@
 use mathlib.Core.Path.{refl}
 use native.Mathlib.Omega.{arith}
 use lib.ListN.{length}
-use Rattle.journal_image.proofs.Outcomes.{given-told}
-use Rattle.lister.proofs.Images.{told, payload-short, replay-short, text-short, too-long, strip-refused, strip-damaged, strip-blocks}
+use Rattle.journal_image.proofs.Outcomes.{given-told, answer-told}
+use Rattle.lister.proofs.Images.{payload-short, replay-short, text-short, too-long, strip-refused, strip-damaged, strip-blocks}
 use borrow.Author.Needs.{needs}
 use Rattle.lister.proofs.list_image.Statement.{statement}
 use Rattle.lister.proofs.list_image.Tie as tie
@@ -62,7 +62,7 @@ enum-known-strip-2 c = search needs
 mul-end : tie.Need-mul-end
 mul-end c =
     let start = c .before .before .before .before .before .before .before .before .before .before .before .before .before .before .before in
-    let g = given-told (start .args .image .now) (start .args .payload .now) (c .before .strip3 .given .0 .0) (told (c .before .before .before .before .before .strip .ensures .0) (c .before .strip3 .given .1)) in
+    let g = given-told (start .args .image .now) (start .args .payload .now) (c .before .strip3 .given .0 .0) (answer-told (c .before .before .before .before .before .strip .ensures .0) (c .before .strip3 .given .1)) in
     record { fits = omega (arith, g .count, c .before .before .before .before .before .before .before .if4 .left) }
 
 sub-list-payload : tie.Need-sub-list-payload
@@ -74,7 +74,7 @@ part-list-payload-start c = search needs
 part-list-payload-end : tie.Need-part-list-payload-end
 part-list-payload-end c =
     let start = c .before .before .before .before .before .before .before .before .before .before .before .before .before .before .before .before in
-    let g = given-told (start .args .image .now) (start .args .payload .now) (c .before .before .strip3 .given .0 .0) (told (c .before .before .before .before .before .before .strip .ensures .0) (c .before .before .strip3 .given .1)) in
+    let g = given-told (start .args .image .now) (start .args .payload .now) (c .before .before .strip3 .given .0 .0) (answer-told (c .before .before .before .before .before .before .strip .ensures .0) (c .before .before .strip3 .given .1)) in
     omega (arith, g .room, c .before .before .before .before .before .before .strip .kept .1 .0)
 
 list-payload-requires : tie.Need-list-payload-requires
@@ -89,7 +89,7 @@ same-length-3 c = search needs
 returns-5 : tie.Need-returns-5
 returns-5 c =
     let start = c .before .before .before .before .before .before .before .before .before .before .before .before .before .before .before .before .before .before .before .before in
-    strip-refused (start .args .image .now) (length (start .args .payload .now)) (length (start .args .replay .now)) (start .args .text .now) (record { of-payload = c .before .before .before .before .before .before .before .before .before .before .before .before .before .before .before .if1 .left; of-replay = c .before .before .before .before .before .before .before .before .before .before .before .before .before .before .if2 .left; of-text = c .before .before .before .before .before .before .before .before .before .before .before .before .before .if3 .left }) (c .before .before .before .before .before .before .before .before .before .before .before .before .if4 .left) (start .args .payload .now) refl _ _ _ (told (c .before .before .before .before .before .before .before .before .before .before .strip .ensures .0) (c .before .before .before .before .before .before .strip2 .given .1)) (c .before .before .before .before .number2 .ensures) (c .before .before .list-refusal2 .ensures)
+    strip-refused (start .args .image .now) (length (start .args .payload .now)) (length (start .args .replay .now)) (start .args .text .now) (record { of-payload = c .before .before .before .before .before .before .before .before .before .before .before .before .before .before .before .if1 .left; of-replay = c .before .before .before .before .before .before .before .before .before .before .before .before .before .before .if2 .left; of-text = c .before .before .before .before .before .before .before .before .before .before .before .before .before .if3 .left }) (c .before .before .before .before .before .before .before .before .before .before .before .before .if4 .left) (start .args .payload .now) refl _ _ _ (answer-told (c .before .before .before .before .before .before .before .before .before .before .strip .ensures .0) (c .before .before .before .before .before .before .strip2 .given .1)) (c .before .before .before .before .number2 .ensures) (c .before .before .list-refusal2 .ensures)
 
 same-length-4 : tie.Need-same-length-4
 same-length-4 c = search needs
@@ -100,7 +100,7 @@ same-length-5 c = search needs
 returns-6 : tie.Need-returns-6
 returns-6 c =
     let start = c .before .before .before .before .before .before .before .before .before .before .before .before .before .before .before .before .before .before in
-    strip-damaged (start .args .image .now) (length (start .args .payload .now)) (length (start .args .replay .now)) (start .args .text .now) (record { of-payload = c .before .before .before .before .before .before .before .before .before .before .before .before .before .if1 .left; of-replay = c .before .before .before .before .before .before .before .before .before .before .before .before .if2 .left; of-text = c .before .before .before .before .before .before .before .before .before .before .before .if3 .left }) (c .before .before .before .before .before .before .before .before .before .before .if4 .left) (start .args .payload .now) refl _ _ (told (c .before .before .before .before .before .before .before .before .strip .ensures .0) (c .before .before .before .before .enum-told .given .1)) (c .before .before .list-refusal3 .ensures)
+    strip-damaged (start .args .image .now) (length (start .args .payload .now)) (length (start .args .replay .now)) (start .args .text .now) (record { of-payload = c .before .before .before .before .before .before .before .before .before .before .before .before .before .if1 .left; of-replay = c .before .before .before .before .before .before .before .before .before .before .before .before .if2 .left; of-text = c .before .before .before .before .before .before .before .before .before .before .before .if3 .left }) (c .before .before .before .before .before .before .before .before .before .before .if4 .left) (start .args .payload .now) refl _ _ (answer-told (c .before .before .before .before .before .before .before .before .strip .ensures .0) (c .before .before .before .before .enum-told .given .1)) (c .before .before .list-refusal3 .ensures)
 
 same-length-6 : tie.Need-same-length-6
 same-length-6 c = search needs
@@ -114,7 +114,7 @@ same-length-8 c = search needs
 returns-7 : tie.Need-returns-7
 returns-7 c =
     let start = c .before .before .before .before .before .before .before .before .before .before .before .before .before .before .before .before .before .before .before .before .before .before .before .before in
-    strip-blocks (start .args .image .now) (length (start .args .payload .now)) (length (start .args .replay .now)) (start .args .text .now) (record { of-payload = c .before .before .before .before .before .before .before .before .before .before .before .before .before .before .before .before .before .before .before .if1 .left; of-replay = c .before .before .before .before .before .before .before .before .before .before .before .before .before .before .before .before .before .before .if2 .left; of-text = c .before .before .before .before .before .before .before .before .before .before .before .before .before .before .before .before .before .if3 .left }) (c .before .before .before .before .before .before .before .before .before .before .before .before .before .before .before .before .if4 .left) (start .args .payload .now) refl (c .before .before .before .before .before .before .before .before .before .before .strip3 .given .0 .0) (c .before .before .before .before .before .before .before .before .before .before .before .before .before .before .strip .last .1 .0) _ (told (c .before .before .before .before .before .before .before .before .before .before .before .before .before .before .strip .ensures .0) (c .before .before .before .before .before .before .before .before .before .before .strip3 .given .1)) (c .before .before .before .before .before .before .before .before .before .before .before .before .before .before .strip .ensures .1)
+    strip-blocks (start .args .image .now) (length (start .args .payload .now)) (length (start .args .replay .now)) (start .args .text .now) (record { of-payload = c .before .before .before .before .before .before .before .before .before .before .before .before .before .before .before .before .before .before .before .if1 .left; of-replay = c .before .before .before .before .before .before .before .before .before .before .before .before .before .before .before .before .before .before .if2 .left; of-text = c .before .before .before .before .before .before .before .before .before .before .before .before .before .before .before .before .before .if3 .left }) (c .before .before .before .before .before .before .before .before .before .before .before .before .before .before .before .before .if4 .left) (start .args .payload .now) refl (c .before .before .before .before .before .before .before .before .before .before .strip3 .given .0 .0) (c .before .before .before .before .before .before .before .before .before .before .before .before .before .before .strip .last .1 .0) _ (answer-told (c .before .before .before .before .before .before .before .before .before .before .before .before .before .before .strip .ensures .0) (c .before .before .before .before .before .before .before .before .before .before .strip3 .given .1)) (c .before .before .before .before .before .before .before .before .before .before .before .before .before .before .strip .ensures .1)
     (c .before .before .before .before .list-payload .ensures)
 
 pub list-image-spec : {M : Type 1} → statement M
