@@ -5,6 +5,7 @@ use mathlib.Core.Option.{Option, none, some}
 use Prim.Native.Nat.{ℕ, _≤_, _<_}
 use native.Mathlib.Omega.{arith}
 use borrow.Author.Tests.{le-leb, lt-leb}
+use Rattle.refusals.proofs.Tests.{impossible}
 use lib.ListN.{length, drop, set}
 use Rattle.refusals.specs.Outcome.{Outcome, gives, refuses}
 use Rattle.journal_entry.specs.Entry.{JournalEntry, SumJournalEntries}
@@ -13,10 +14,6 @@ use Rattle.journal_range.specs.declared.RangeRead.{RangeRead}
 use Rattle.journal_range.specs.declared.RangeRead.the-variants as range
 use Rattle.journal_c.specs.Numbers.{codeOf, outputAfter}
 use Rattle.journal_c.specs.Totals.{totalsOf, totalsCall}
-
--- an answer that cannot have been given
-never : {C : Type 0} → _≡_ {A = ℕ} 0 1 → C
-never z = absurd (omega arith)
 
 -- the outcome settles the number and the words
 abbrev Settled : (s totals : List ℕ) (code : ℕ) (after : List ℕ) → Type 0
@@ -32,7 +29,7 @@ unread s totals code e c = settled s totals (refuses 14) code totals (go (rangeO
   where
     go : (o : Option (List JournalEntry)) → rangeAnswer o ≡ range.Unreadable → totalsOf o totals ≡ refuses 14
     go none f = refl
-    go (some es) f = never cc
+    go (some es) f = impossible cc
 
 -- the entries and their bytes are those of the list that was read
 module _ (s totals : List ℕ) (entries bytes : ℕ) (e : rangeAnswer (rangeOf s) ≡ range.Read entries bytes) where
@@ -41,7 +38,7 @@ module _ (s totals : List ℕ) (entries bytes : ℕ) (e : rangeAnswer (rangeOf s
   no-room code h c = settled s totals (refuses 9) code totals (go (rangeOf s) e) c refl
     where
       go : (o : Option (List JournalEntry)) → rangeAnswer o ≡ range.Read entries bytes → totalsOf o totals ≡ refuses 9
-      go none f = never cc
+      go none f = impossible cc
       go (some es) f = simp (lt-leb 2 (length totals) h)
 
   both : (t : List ℕ) → 2 ≤ length t → set (set t 0 entries) 1 bytes ≡ entries ∷ bytes ∷ drop 2 t
@@ -61,5 +58,5 @@ module _ (s totals : List ℕ) (entries bytes : ℕ) (e : rangeAnswer (rangeOf s
           ap₂ (λ (x y : ℕ). gives (x ∷ y ∷ drop 2 totals)) n w
 
       go : (o : Option (List JournalEntry)) → rangeAnswer o ≡ range.Read entries bytes → totalsOf o totals ≡ gives (entries ∷ bytes ∷ drop 2 totals)
-      go none f = never cc
+      go none f = impossible cc
       go (some es) f = simp (le-leb 2 (length totals) h) (same es f)

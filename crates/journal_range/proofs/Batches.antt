@@ -25,8 +25,9 @@ use Rattle.journal_range.specs.declared.BatchRead.{BatchRead}
 use Rattle.journal_range.specs.declared.BatchRead.the-variants.{Read, Unreadable}
 use Rattle.journal_range.specs.Range.{parseJournalRangeOfBytes}
 use Rattle.journal_range.specs.Payload.{frontBatch, batchAnswer}
+use Rattle.words.proofs.Slices.{drop-take}
 use Rattle.journal_range.proofs.Same.{both}
-use Rattle.journal_range.proofs.Header.{header-yes, header-no, drop-take}
+use Rattle.journal_range.proofs.Header.{header-yes, header-no}
 
 -- the header of a batch at the front of s: it has a block at least, and its blocks are there
 pub record Headed (s : List ℕ) : Type 0 where

@@ -7,6 +7,7 @@ use Prim.Native.Nat.{ℕ, _+_, _-_, _*_, _≤_}
 use native.Mathlib.Omega.{arith}
 use borrow.Author.Tests.{leb-true}
 use lib.Dec.{leb}
+use Rattle.refusals.proofs.Tests.{impossible}
 use lib.ListN.{length, take, drop}
 use lib.Seq.{take-at}
 use Rattle.journal_entry.specs.Entry.{JournalEntry, SumJournalEntries, wires}
@@ -21,10 +22,6 @@ use Rattle.listing.specs.declared.Listed.{Listed}
 use Rattle.listing.specs.declared.Listed.the-variants.{Short}
 use Rattle.lister.specs.Lister.{listedRange, listedPayload}
 
--- an answer that cannot have been given
-never : {C : Type 0} → _≡_ {A = ℕ} 0 1 → C
-never z = absurd (omega arith)
-
 -- the load of a range that does not read, does not fit, or fits, and what is then listed
 module _ (room : ℕ) (text : List ℕ) where
   of-unreadable : (o : Option (List JournalEntry)) → loadAnswer o room ≡ load.Unreadable → listedRefusal 14 text ≡ listedRange o room text
@@ -32,15 +29,15 @@ module _ (room : ℕ) (text : List ℕ) where
   of-unreadable (some es) e = go (leb (SumJournalEntries es) room) refl
     where
       go : (t : Bool) → leb (SumJournalEntries es) room ≡ t → listedRefusal 14 text ≡ listedRange (some es) room text
-      go true q = let f : load.Loaded (length es) (SumJournalEntries es) ≡ load.Unreadable = rw q at e in never cc
-      go false q = let f : load.Short ≡ load.Unreadable = rw q at e in never cc
+      go true q = let f : load.Loaded (length es) (SumJournalEntries es) ≡ load.Unreadable = rw q at e in impossible cc
+      go false q = let f : load.Short ≡ load.Unreadable = rw q at e in impossible cc
 
   of-short : (o : Option (List JournalEntry)) → loadAnswer o room ≡ load.Short → (Short, text) ≡ listedRange o room text
-  of-short none e = never cc
+  of-short none e = impossible cc
   of-short (some es) e = go (leb (SumJournalEntries es) room) refl
     where
       go : (t : Bool) → leb (SumJournalEntries es) room ≡ t → (Short, text) ≡ listedRange (some es) room text
-      go true q = let f : load.Loaded (length es) (SumJournalEntries es) ≡ load.Short = rw q at e in never cc
+      go true q = let f : load.Loaded (length es) (SumJournalEntries es) ≡ load.Short = rw q at e in impossible cc
       go false q = rw q refl
 
 -- the entries that were loaded, as bytes
@@ -54,11 +51,11 @@ pub record Loaded (p replay : List ℕ) (entries bytes : ℕ) (after : List ℕ)
 
 of-loaded : (p replay : List ℕ) (entries bytes : ℕ) (after : List ℕ) (o : Option (List JournalEntry)) → rangeOf p ≡ o
     → loadAnswer o (length replay) ≡ load.Loaded entries bytes → after ≡ loadedBuffer o replay → Loaded p replay entries bytes after
-of-loaded p replay entries bytes after none r e b = never cc
+of-loaded p replay entries bytes after none r e b = impossible cc
 of-loaded p replay entries bytes after (some es) r e b = go (leb (SumJournalEntries es) (length replay)) refl
   where
     go : (t : Bool) → leb (SumJournalEntries es) (length replay) ≡ t → Loaded p replay entries bytes after
-    go false q = let f : load.Short ≡ load.Loaded entries bytes = rw q at e in never cc
+    go false q = let f : load.Short ≡ load.Loaded entries bytes = rw q at e in impossible cc
     go true q =
         let f : load.Loaded (length es) (SumJournalEntries es) ≡ load.Loaded entries bytes = rw q at e in
         record { list = es; reads = r; many = cc; long = cc; fits = q; buffer = rw q at b }

@@ -17,7 +17,11 @@ fn list_payload(payload: &[u8], replay: &mut [u8], text: &mut [u8]) -> Listed
     match load {
         LoadRead::Unreadable => listing::list_refusal(refusals::number(Refusal::Unreadable), text),
         LoadRead::Short => Listed::Short,
-        LoadRead::Loaded { entries, bytes } => listing::list_entries(&replay[0..bytes], entries, text),
+        LoadRead::Loaded { entries, bytes } => listing::list_entries(
+            &replay[0..bytes],
+            entries,
+            text,
+        ),
     }
 }
 

@@ -5,7 +5,7 @@ use Prim.Native.Nat.{ℕ, zero, suc, _+_, _-_, _≤_, _<_}
 use native.Mathlib.Nat.{le-of-eq}
 use native.Mathlib.Omega.{arith}
 use lib.ListN.{length, take, drop, getD, length-drop}
-use lib.Seq.{drop-cons, take-all, getD-drop}
+use lib.Seq.{drop-cons, take-all, take-nil, getD-drop}
 
 -- every element is below 256
 abbrev pub Bytes : List ℕ → Type 0
@@ -19,6 +19,14 @@ bytes-take zero s bytes k = omega arith
 bytes-take (suc n) [] bytes k = omega arith
 bytes-take (suc n) (b ∷ bs) bytes zero = bytes zero
 bytes-take (suc n) (b ∷ bs) bytes (suc k) = bytes-take n bs (λ j. bytes (suc j)) k
+
+-- a part of the first n elements
+pub drop-take : {A : Type 0} (i n : ℕ) (l : List A) → drop i (take n l) ≡ take (n - i) (drop i l)
+drop-take zero n l = let e : n ≡ n - 0 = omega arith in ap (λ (k : ℕ). take k l) e
+drop-take (suc i) zero l = let e : 0 ≡ 0 - suc i = omega arith in ap (λ (k : ℕ). take k (drop (suc i) l)) e
+drop-take (suc i) (suc n) [] = sym (take-nil (suc n - suc i))
+drop-take (suc i) (suc n) (x ∷ l) =
+    let e : n - i ≡ suc n - suc i = omega arith in drop-take i n l ∙ ap (λ (k : ℕ). take k (drop i l)) e
 
 -- what `&s[i..]` holds
 pub tail : {A : Type 0} (i : ℕ) (s : List A) → take (length s - i) (drop i s) ≡ drop i s
