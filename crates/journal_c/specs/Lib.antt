@@ -1,3 +1,4 @@
 pub mod Numbers
 pub mod Checksum
 pub mod Totals
+pub mod Writing

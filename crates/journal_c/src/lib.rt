@@ -2,12 +2,19 @@
 ghost use mathlib.Core.Path.{_≡_};
 ghost use mathlib.Core.List.{_++_};
 ghost use Rattle.crc32c.specs.Crc32c.{crc32cOf};
+ghost use Rattle.journal_entry.specs.Places.{kindOf};
+ghost use Rattle.journal_ring.specs.Put.{putEntry};
+ghost use Rattle.marshalling.specs.Marshalled.{marshalled};
 ghost use Rattle.journal_image.specs.Strip.{stripCall, strippedOutput};
 ghost use Rattle.journal_c.specs.Numbers.{codeOf, outputAfter};
 ghost use Rattle.journal_c.specs.Checksum.{checksumCall};
 ghost use Rattle.journal_c.specs.Totals.{totalsCall};
+ghost use Rattle.journal_c.specs.Writing.{putTaken, imageTaken};
+use journal_entry::Kind;
 use journal_image::Stripped;
 use journal_range::RangeRead;
+use journal_ring::Put;
+use marshalling::Marshalled;
 use refusals::Refusal;
 
 // CRC-32C of s.
@@ -63,5 +70,50 @@ pub extern "C" fn journal_range(front: &[u8], back: &[u8], totals: &mut [u64]) -
             totals[1] = bytes as u64;
             0
         }
+    }
+}
+
+fn kind_of(clone: bool) -> Kind
+    ensures { λ r. ⌜ r ≡ kindOf clone ⌝ }
+{
+    if clone { Kind::Clone } else { Kind::Insert }
+}
+
+// Writes an entry's wire form into the ring, wrapping, behind the bytes that are pending from start on. False where it is not taken: nothing changed.
+#[no_mangle]
+pub extern "C" fn journal_put_entry(
+    ring: &mut [u8],
+    start: usize,
+    pending: usize,
+    clone: bool,
+    first: &[u8],
+    second: &[u8],
+) -> bool
+    ensures { λ r. ⌜ (r, now (ring .exit)) ≡ putTaken (putEntry (now (ring .entry)) start pending (kindOf clone) (now (first .entry)) (now (second .entry))) ⌝ }
+{
+    let put = journal_ring::put_entry(ring, start, pending, kind_of(clone), first, second);
+    match put {
+        Put::Done => true,
+        Put::NotTaken => false,
+    }
+}
+
+// Writes the image of a batch, whose wire forms are the n bytes of a and b joined from `at` on. False where it is not taken: nothing changed.
+#[no_mangle]
+pub extern "C" fn journal_marshall(
+    a: &[u8],
+    b: &[u8],
+    at: usize,
+    n: usize,
+    entries: u32,
+    blocks: u32,
+    out: &mut [u8],
+) -> bool
+    ensures { λ r. ⌜ (r, now (out .exit)) ≡ imageTaken (marshalled (now (a .entry) ++ now (b .entry)) at n entries blocks (now (out .entry))) ⌝ }
+{
+    let image = marshalling::marshall(a, b, at, n, entries, blocks, out);
+    match image {
+        Marshalled::Done => true,
+        Marshalled::NotTaken => false,
     }
 }

@@ -36,6 +36,14 @@ fn timed(work: impl FnOnce() -> u64) -> Timed {
     Timed { seconds: began.elapsed().as_secs_f64(), given }
 }
 
+/// Work that fills `out`, which is cleared before; what it leaves there is given too.
+fn filling(out: &mut [u8], work: impl FnOnce(&mut [u8]) -> u64) -> Timed {
+    out.fill(0);
+    let Timed { seconds, given } = timed(|| work(out));
+    let left = u64::from(crc::slicing_by_8(out));
+    Timed { seconds, given: given.map(|given| given.rotate_left(32) ^ left) }
+}
+
 type Crc = fn(&[u8]) -> u32;
 
 /// The CRC-32C of a buffer's pieces, one after the other.
@@ -78,11 +86,11 @@ struct Ranges {
 struct Made {
     image: Vec<u8>,
     payload: Vec<u8>,
-    /// Where the payload is put; it is cleared before each round.
+    /// Where the payload or the image is put.
     out: RefCell<Vec<u8>>,
 }
 
-/// What is done to a range: to its image, its payload, and where that is put.
+/// What is done to a range: to its image, its payload, and where one of them is put.
 type Work = fn(&[u8], &[u8], &mut [u8]) -> u64;
 
 impl Ranges {
@@ -99,19 +107,17 @@ impl Ranges {
         let batch = |_| writing::full_batch(self.blocks, &mut next);
         let payload: Vec<u8> = (0..BLOCKS / self.blocks).flat_map(batch).collect();
         let image = writing::image(&payload);
-        let out = RefCell::new(vec![0; payload.len()]);
+        let out = RefCell::new(vec![0; image.len()]);
         Made { image, payload, out }
     }
 
     /// A round of the work, done to one range after the other.
     fn round(&self, work: Work) -> Timed {
         let Made { image, payload, out } = self.made.get_or_init(|| self.make());
-        let mut out = out.borrow_mut();
-        out.fill(0);
-        timed(|| {
+        filling(&mut out.borrow_mut(), |out| {
             let images = black_box(image).chunks(BLOCK * self.blocks);
             let payloads = black_box(payload).chunks(PAYLOAD * self.blocks);
-            let ranges = images.zip(payloads).zip(out.chunks_mut(PAYLOAD * self.blocks));
+            let ranges = images.zip(payloads).zip(out.chunks_mut(BLOCK * self.blocks));
             ranges.map(|((image, payload), out)| work(image, payload, out)).sum()
         })
     }
@@ -119,7 +125,7 @@ impl Ranges {
     /// The third way, a limit for the others, is to copy the payload.
     fn case(&self, name: &str, rattle: Work, rust: Work) -> Case<'_> {
         let copy: Work = |_, payload, out| {
-            out.copy_from_slice(payload);
+            out[..payload.len()].copy_from_slice(payload);
             0
         };
         let copied = move || Timed { given: None, ..self.round(copy) };
@@ -153,8 +159,20 @@ impl Ranges {
     fn strip_and_range(&self) -> Case<'_> {
         self.case(
             "strip+range",
-            |image, _, out| calls::strip(image, out) + totals(calls::range, out),
-            |image, _, out| block::strip(image, out) + totals(reading::range, out),
+            |image, payload, out| {
+                calls::strip(image, out) + totals(calls::range, &out[..payload.len()])
+            },
+            |image, payload, out| {
+                block::strip(image, out) + totals(reading::range, &out[..payload.len()])
+            },
+        )
+    }
+
+    fn marshall(&self) -> Case<'_> {
+        self.case(
+            "marshall",
+            |_, payload, out| marshalled(calls::marshall, payload, out),
+            |_, payload, out| marshalled(writing::marshall, payload, out),
         )
     }
 }
@@ -165,6 +183,79 @@ fn totals(range: fn(&[u8], &[u8], &mut [u64]) -> u64, payload: &[u8]) -> u64 {
     let mut totals = [0; 2];
     let answer = range(front, back, &mut totals);
     answer + (totals[0] << 8) + (totals[1] << 32)
+}
+
+type Marshall = fn(&[u8], &[u8], usize, usize, u32, u32, &mut [u8]) -> bool;
+
+/// A payload's image, from what is behind its two words, in two parts.
+fn marshalled(marshall: Marshall, payload: &[u8], out: &mut [u8]) -> u64 {
+    let (header, forms) = payload.split_at(8);
+    let [entries, blocks] =
+        [0, 4].map(|at| u32::from_le_bytes(header[at..at + 4].try_into().unwrap()));
+    let (a, b) = forms.split_at(forms.len() / 3);
+    u64::from(marshall(a, b, 0, forms.len(), entries, blocks, out))
+}
+
+/// Entries of one weight, and a ring in which they wrap.
+struct Puts {
+    weight: usize,
+    entries: Vec<Entry>,
+    ring: RefCell<Vec<u8>>,
+}
+
+type PutEntry = fn(&mut [u8], usize, usize, bool, &[u8], &[u8]) -> bool;
+
+impl Puts {
+    fn new(weight: usize) -> Self {
+        let random = &mut Random(1);
+        let [first, second] = [(weight - 8) / 2, (weight - 8).div_ceil(2)];
+        let entry = |k| Entry {
+            is_clone: k % 2 == 1,
+            first: random.bytes(first),
+            second: random.bytes(second),
+        };
+        let entries = (0..8_000).map(entry).collect();
+        Puts { weight, entries, ring: RefCell::new(vec![0; 8 << 20]) }
+    }
+
+    fn bytes(&self) -> usize {
+        self.weight * self.entries.len()
+    }
+
+    /// A round of putting all entries into the ring, half of them before its end.
+    fn round(&self, put_entry: PutEntry) -> Timed {
+        filling(&mut self.ring.borrow_mut(), |ring| {
+            let start = ring.len() - self.bytes() / 2;
+            let put = |(k, entry): (usize, &Entry)| {
+                let Entry { is_clone, first, second } = entry;
+                u64::from(put_entry(ring, start, k * self.weight, *is_clone, first, second))
+            };
+            black_box(&self.entries).iter().enumerate().map(put).sum()
+        })
+    }
+
+    /// The third way, a limit for the others, is to copy the entries' wire forms.
+    fn case(&self) -> Case<'_> {
+        let forms: Vec<u8> = self.entries.iter().flat_map(Entry::wire_form).collect();
+        let copy = move || {
+            filling(&mut self.ring.borrow_mut(), |ring| {
+                let (before_end, from_start) = black_box(&forms).split_at(forms.len() / 2);
+                let start = ring.len() - before_end.len();
+                ring[start..].copy_from_slice(before_end);
+                ring[..from_start.len()].copy_from_slice(from_start);
+                self.entries.len() as u64
+            })
+        };
+        Case {
+            name: format!("put {}", self.weight),
+            bytes: self.bytes(),
+            ways: vec![
+                Way { name: "rattle", round: Box::new(|| self.round(calls::put_entry)) },
+                Way { name: "rust", round: Box::new(|| self.round(writing::put_entry)) },
+                Way { name: "memcpy", round: Box::new(copy) },
+            ],
+        }
+    }
 }
 
 /// The best and the middle of each way's rounds, in seconds.
@@ -198,11 +289,14 @@ fn main() {
     Random(1).fill(&mut buffer);
     let mixed = [1, 16, 256, 1_024].map(|blocks| Ranges::new(blocks, &[3, 40, 1_024]));
     let tiny = Ranges::new(1_024, &[3]);
+    let puts = [100, 1_000].map(Puts::new);
     let mut cases = crc_cases(&buffer);
     cases.extend(mixed.iter().map(Ranges::strip));
     cases.extend(mixed.iter().map(|ranges| ranges.range("range")));
     cases.push(tiny.range("range tiny"));
     cases.extend(mixed.iter().map(Ranges::strip_and_range));
+    cases.extend(puts.iter().map(Puts::case));
+    cases.extend(mixed.iter().map(Ranges::marshall));
 
     println!("                                     MB/s          rattle / this");
     println!("case             way             best  middle      best  middle");

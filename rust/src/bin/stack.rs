@@ -104,8 +104,19 @@ fn check_itself() {
 struct Row {
     name: &'static str,
     function: *const (),
+    /// Whether an answer is one of success.
+    right: fn(u64) -> bool,
     limit: usize,
     calls: Vec<(String, Vec<u64>)>,
+}
+
+fn is_zero(answer: u64) -> bool {
+    answer == 0
+}
+
+/// A bool is the lowest byte of its register.
+fn is_true(answer: u64) -> bool {
+    answer as u8 == 1
 }
 
 /// The blocks of a very large input: as many as front and back may have together.
@@ -138,8 +149,9 @@ fn main() -> ExitCode {
     let in_one = [1, 4, MANY].map(&mut tiny);
     let in_each = (0..MANY).flat_map(|_| tiny(1)).collect::<Vec<u8>>();
     let image = writing::image(&in_each);
-    let mut out = vec![0_u8; in_each.len()];
+    let mut out = vec![0_u8; image.len()];
     let mut totals = [0_u64; 2];
+    let mut rings = [8, 40, 8 << 20].map(|len| vec![0_u8; len]);
     let (out, totals) = (filled(&mut out), filled(&mut totals));
 
     let bytes = [0, 15, PAYLOAD, image.len()];
@@ -149,22 +161,37 @@ fn main() -> ExitCode {
         let what = format!("{} blocks, {what}", payload.len() / PAYLOAD);
         (what, [lent(front), lent(back), totals].concat())
     };
+    // an entry whose second bytes wrap in their middle
+    let put = |ring: &mut [u8], first: usize, second: usize| {
+        let what = format!("{first} and {second} bytes, a ring of {}", ring.len());
+        let start = (ring.len() - 8 - first - second / 2) as u64;
+        let [first, second] = [first, second].map(|n| lent(&image[..n]));
+        (what, [&filled(ring)[..], &[start, 0, 0], &first, &second].concat())
+    };
+    let marshall = |blocks: usize| {
+        let (a, b) = in_each[..PAYLOAD * blocks - 8].split_at(PAYLOAD * blocks / 3);
+        let words = [0, (a.len() + b.len()) as u64, 1, blocks as u64];
+        (format!("{blocks} blocks"), [&lent(a)[..], &lent(b), &words, &out].concat())
+    };
     let table = [
         Row {
             name: "journal_crc32c",
             function: raw::journal_crc32c as *const (),
+            right: |_| true,
             limit: checksums,
             calls: bytes.map(|n| (format!("{n} bytes"), lent(&image[..n]).into())).into(),
         },
         Row {
             name: "journal_checksum",
             function: raw::journal_checksum as *const (),
+            right: is_zero,
             limit: checksums,
             calls: bytes.map(|n| (format!("{n} bytes"), [lent(&image[..n]), out].concat())).into(),
         },
         Row {
             name: "journal_strip",
             function: raw::journal_strip as *const (),
+            right: is_zero,
             limit: others,
             calls: blocks
                 .map(|n| (format!("{n} blocks"), [lent(&image[..BLOCK * n]), out].concat()))
@@ -173,22 +200,42 @@ fn main() -> ExitCode {
         Row {
             name: "journal_range",
             function: raw::journal_range as *const (),
+            right: is_zero,
             limit: others,
             calls: in_one.each_ref().map(|payload| range(payload, "one batch")).into(),
         },
         Row {
             name: "journal_range",
             function: raw::journal_range as *const (),
+            right: is_zero,
             limit: others,
             calls: blocks.map(|n| range(&in_each[..PAYLOAD * n], "a batch each")).into(),
         },
+        Row {
+            name: "journal_put_entry",
+            function: raw::journal_put_entry as *const (),
+            right: is_true,
+            limit: others,
+            calls: vec![
+                put(&mut rings[0], 0, 0),
+                put(&mut rings[1], 5, 9),
+                put(&mut rings[2], 512, 1_024),
+            ],
+        },
+        Row {
+            name: "journal_marshall",
+            function: raw::journal_marshall as *const (),
+            right: is_true,
+            limit: others,
+            calls: [1, 4, MANY].map(marshall).into(),
+        },
     ];
     let mut within = true;
-    for Row { name, function, limit, calls } in table {
+    for Row { name, function, right, limit, calls } in table {
         let mut figures = Vec::new();
         for (what, words) in calls {
             let (bytes, answer) = used(function, &words);
-            assert!(answer == 0 || name == "journal_crc32c", "{name} of {what} gives {answer}");
+            assert!(right(answer), "{name} of {what} gives {answer}");
             println!("stack: {bytes:5} bytes, {name} of {what}");
             if bytes > limit {
                 println!("stack: more than {limit}");

@@ -1,8 +1,92 @@
-//! A writer of batches and images for the tests. What it is given is not held to the limits.
-use super::block::{head, PAYLOAD};
+//! The ring's writer and the image's, and behind them slow ones for the tests. What those are given is
+//! not held to the limits.
+use super::block::{head, BLOCK, HEAD, PAYLOAD};
 use super::crc;
 use super::reading::{CLONE, CLONED, FIRST, INSERTED};
 use crate::random::Random;
+
+/// Writes an entry's wire form into the ring, behind the `pending` bytes that lie from `start` on.
+/// False, and nothing is written, where start or pending is not of the ring, a length is over its
+/// limit, or the form finds no room.
+#[inline(never)]
+pub fn put_entry(
+    ring: &mut [u8],
+    start: usize,
+    pending: usize,
+    is_clone: bool,
+    first: &[u8],
+    second: &[u8],
+) -> bool {
+    let (kind, limit) = if is_clone { (CLONE, CLONED) } else { (0, INSERTED) };
+    let room = ring.len().checked_sub(pending);
+    if start >= ring.len()
+        || first.len() > FIRST as usize
+        || second.len() > limit as usize
+        || room.is_none_or(|room| 8 + first.len() + second.len() > room)
+    {
+        return false;
+    }
+    let lengths = [kind + first.len() as u32, second.len() as u32].map(u32::to_le_bytes);
+    let mut at = start + pending;
+    for piece in [&lengths[0][..], first, &lengths[1], second] {
+        at = put(ring, at, piece);
+    }
+    true
+}
+
+/// Puts a piece at a place that may be past the ring's end by less than its length, as the place
+/// that is given behind it may be.
+fn put(ring: &mut [u8], at: usize, piece: &[u8]) -> usize {
+    let at = if at < ring.len() { at } else { at - ring.len() };
+    let (before_end, from_start) = piece.split_at(piece.len().min(ring.len() - at));
+    ring[at..at + before_end.len()].copy_from_slice(before_end);
+    ring[..from_start.len()].copy_from_slice(from_start);
+    at + piece.len()
+}
+
+/// Writes the image of a batch of so many blocks to the start of `out`. Its wire forms are the `n`
+/// bytes from place `at` of `a` and `b`, one behind the other. False, and nothing is written, where
+/// they have fewer, the blocks don't hold them, or `out` does not hold the blocks.
+#[inline(never)]
+pub fn marshall(
+    a: &[u8],
+    b: &[u8],
+    at: usize,
+    n: usize,
+    entries: u32,
+    blocks: u32,
+    out: &mut [u8],
+) -> bool {
+    let all = a.len() + b.len();
+    let Some(end) = at.checked_add(n).filter(|end| *end <= all) else {
+        return false;
+    };
+    let Some(out) = out.get_mut(..BLOCK * blocks as usize) else {
+        return false;
+    };
+    if n + 8 > PAYLOAD * blocks as usize {
+        return false;
+    }
+    let header = [entries, blocks].map(u32::to_le_bytes);
+    let [of_a, of_b] = [
+        &a[at.min(a.len())..end.min(a.len())],
+        &b[at.saturating_sub(a.len())..end.saturating_sub(a.len())],
+    ];
+    let mut pieces = [header.as_flattened(), of_a, of_b];
+    for block in out.chunks_exact_mut(BLOCK) {
+        let (checksum, payload) = block.split_at_mut(HEAD);
+        let mut room = &mut *payload;
+        for piece in &mut pieces {
+            let (now, later) = piece.split_at(piece.len().min(room.len()));
+            let (filled, rest) = room.split_at_mut(now.len());
+            filled.copy_from_slice(now);
+            (*piece, room) = (later, rest);
+        }
+        room.fill(0);
+        checksum.copy_from_slice(&head(crc::slicing_by_8(payload)));
+    }
+    true
+}
 
 /// An insert (key, value) or a clone (from, to).
 pub struct Entry {
@@ -39,11 +123,31 @@ impl Entry {
 /// The payload of a batch: as few blocks as hold it, and `more`.
 pub fn batch(entries: &[Entry], more: usize) -> Vec<u8> {
     let forms: Vec<u8> = entries.iter().flat_map(Entry::wire_form).collect();
-    let blocks = (8 + forms.len()).div_ceil(PAYLOAD) + more;
-    let header = [entries.len(), blocks].map(|n| (n as u32).to_le_bytes());
-    let mut payload = [header.as_flattened(), &forms].concat();
+    payload(entries.len(), (8 + forms.len()).div_ceil(PAYLOAD) + more, &forms)
+}
+
+/// The payload of so many blocks: a batch's two words, its wire forms, and zeros.
+pub fn payload(entries: usize, blocks: usize, forms: &[u8]) -> Vec<u8> {
+    let header = [entries, blocks].map(|n| (n as u32).to_le_bytes());
+    let mut payload = [header.as_flattened(), forms].concat();
+    assert!(payload.len() <= PAYLOAD * blocks, "{} bytes in {blocks} blocks", payload.len());
     payload.resize(PAYLOAD * blocks, 0);
     payload
+}
+
+/// Entries of exactly this weight together, which is 0 or at least 8: as few as can be, or some more.
+pub fn weighing(random: &mut Random, weight: usize) -> Vec<Entry> {
+    let least = weight.div_ceil((8 + FIRST + INSERTED) as usize);
+    let n = (least + random.below(32)).min(weight / 8);
+    let entry = |i: usize| {
+        let bytes = weight * (i + 1) / n - weight * i / n - 8;
+        let is_clone = bytes <= (FIRST + CLONED) as usize && random.below(2) == 1;
+        let limit = if is_clone { CLONED } else { INSERTED } as usize;
+        let [fewest, most] = [bytes.saturating_sub(limit), bytes.min(FIRST as usize)];
+        let first = fewest + random.below(most - fewest + 1);
+        Entry { is_clone, first: random.bytes(first), second: random.bytes(bytes - first) }
+    };
+    (0..n).map(entry).collect()
 }
 
 /// The payload of a batch of so many blocks: entries from `next`, until one finds no room.
