@@ -1,0 +1,4 @@
+pub mod Record
+pub mod Answers
+pub mod Changes
+pub mod Calls
