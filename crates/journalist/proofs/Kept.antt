@@ -3,9 +3,10 @@ use Prim.Native.Nat.{ℕ, _≤_}
 use mathlib.Core.Bool.{true}
 use mathlib.Core.Path.{_≡_, refl}
 use native.Mathlib.Omega.{arith}
+use Rattle.replay_cursor.proofs.Counts.{counts-true}
 use Rattle.journalist.specs.Record.{inRange, blocksFor, hangsTogether}
 use Rattle.journalist.specs.declared.Journalist.{Journalist}
-use Rattle.journalist.proofs.Facts.{range-facts, weight-is, side-none, counts-true, facts, together}
+use Rattle.journalist.proofs.Facts.{range-facts, weight-is, side-none, facts, together}
 use Rattle.journalist.specs.Changes.{emptyRecord, withBlocks, frozenRecord}
 
 pub empty-hangs : (n r : ℕ) → inRange n r ≡ true → hangsTogether (emptyRecord n r) ≡ true

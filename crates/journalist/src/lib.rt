@@ -3,22 +3,16 @@
 ghost use mathlib.Core.Path.{_≡_};
 ghost use Prim.Native.Nat.{_+_, min};
 ghost use lib.Dec.{leb};
-ghost use Rattle.journalist.specs.Record.{inRange, listWeight, blocksFor, startHangs, countsHang, regionHangs, sideHangs, hangsTogether};
+ghost use Rattle.journalist.specs.Record.{inRange, listWeight, blocksFor, startHangs, regionHangs, sideHangs, hangsTogether};
 ghost use Rattle.journalist.specs.Answers.{recordOutcome, askedOutcome, lengthOutcome};
 ghost use Rattle.journalist.specs.Calls.{openCall, freezeCall, setWrittenJournalLenCall, updateWrittenJournalLenCall, queryCall, hasFrozenJournal, hasInMemoryJournal, isReplayEmpty, present};
 use refusals::Refusal;
+use replay_cursor::Replay;
 
 // A list of pending entries in the ring: how many, and the bytes of their wire forms.
 pub struct Pending {
     pub entries: usize,
     pub bytes: usize,
-}
-
-// What is left of the replay: from a place of the replay buffer on, so many bytes, which are so many entries.
-pub struct Replay {
-    pub place: usize,
-    pub bytes: usize,
-    pub entries: usize,
 }
 
 // Payload blocks that are kept for a load: none were set, or so many, also zero.
@@ -48,6 +42,15 @@ pub struct Journalist {
 // The record after a call.
 pub enum Recorded {
     Done(Journalist),
+    Refused(Refusal),
+}
+
+// The record after a packaging, and the blocks that it wrote.
+pub enum Packaged {
+    Done {
+        journalist: Journalist,
+        blocks: usize,
+    },
     Refused(Refusal),
 }
 
@@ -112,15 +115,6 @@ fn pending_hangs(r: usize, frozen: usize, memory: usize) -> bool
     memory <= r - frozen
 }
 
-fn counts_hang(entries: usize, bytes: usize) -> bool
-    ensures { λ ok. ⌜ ok ≡ countsHang entries bytes ⌝ }
-{
-    if entries == 0 {
-        return bytes == 0;
-    }
-    entries <= bytes / 8
-}
-
 // Weights are compared in whole blocks, so that no product is made that may wrap.
 fn region_hangs(n: usize, written: usize, held: usize, memory: usize, frozen: usize) -> bool
     ensures { λ ok. ⌜ ok ≡ regionHangs n written held memory frozen ⌝ }
@@ -174,13 +168,13 @@ impl Journalist {
         if !region_hangs(self.blocks, self.written, self.held, memory, frozen) {
             return false;
         }
-        if !counts_hang(self.frozen.entries, self.frozen.bytes) {
+        if !replay_cursor::counts_hang(self.frozen.entries, self.frozen.bytes) {
             return false;
         }
-        if !counts_hang(self.memory.entries, self.memory.bytes) {
+        if !replay_cursor::counts_hang(self.memory.entries, self.memory.bytes) {
             return false;
         }
-        if !counts_hang(self.replay.entries, self.replay.bytes) {
+        if !replay_cursor::counts_hang(self.replay.entries, self.replay.bytes) {
             return false;
         }
         let front = self.front;
