@@ -4,24 +4,23 @@ use mathlib.Core.List.{List}
 use mathlib.Core.Path.{_≡_, refl, sym, ap, _∙_}
 use Prim.Native.Nat.{ℕ, _+_, _-_, _≤_, _<_}
 use native.Mathlib.Omega.{arith}
-use lib.Dec.{leb, eqb}
+use lib.Dec.{eqb}
 use lib.ListN.{length}
 use borrow.Author.Tests.{le-leb, lt-leb, eqb-true}
 use Rattle.refusals.specs.Outcome.{Outcome, gives, refuses}
 use Rattle.refusals.proofs.Tests.{both}
 use Rattle.journal_entry.specs.declared.Kind.{Kind}
-use Rattle.journal_entry.specs.Entry.{JournalEntry, entryOf, first, second, isClone, firstLimit, secondLimit, WeightJournalEntry}
+use Rattle.journal_entry.specs.Entry.{JournalEntry, entryOf, first, second, isClone, firstLimit, secondLimit, Within, WeightJournalEntry}
 use Rattle.journal_entry.specs.Places.{isCloneKind}
 use Rattle.journal_ring.specs.declared.Put.{Put}
 use Rattle.journal_ring.specs.Put.{withEntry, putEntry}
 use Rattle.journal_ring.proofs.Taken.{Taken, put-taken}
-use Rattle.journalist.specs.declared.Pending.{Pending}
 use Rattle.journalist.specs.declared.Journalist.{Journalist}
 use Rattle.journalist.specs.Record.{hangsTogether}
 use Rattle.journalist.specs.Changes.{withLists, appendedRecord}
 use Rattle.journalist.specs.Append.{ringHangs, pendingBytes, canAppend, ringTakes, appendCall, ringAppended}
 use Rattle.journalist.proofs.Facts.{Hangs, facts}
-use Rattle.journalist.proofs.AppendLaws.{Within, Takes, regionTakes, append-takes, refuses-2, refuses-3, refuses-4, refuses-5, refuses-6}
+use Rattle.journalist.proofs.AppendLaws.{regionTakes, append-takes, refuses-2, refuses-3, refuses-4, refuses-5, refuses-6, ring-taken, ring-refused}
 
 -- the lengths that the rows test
 record Pieces (clone : Bool) (f s : List ℕ) : Type 0 where
@@ -49,8 +48,7 @@ module _ (j : Journalist) (ring : List ℕ) (kind : Kind) (f s : List ℕ) where
   Answers o after = (o ≡ appendCall j ring e) × (after ≡ ringAppended j ring e)
 
   refusal : (n : ℕ) → appendCall j ring e ≡ refuses n → Answers (refuses n) ring
-  unfolding ringAppended
-  refusal n h = (sym h, rw h refl)
+  refusal n h = (sym h, sym (ring-refused j ring e n h))
 
   pub answers-2 : ringHangs j ring ≡ false → Answers (refuses 2) ring
   answers-2 h = refusal 2 (refuses-2 j ring e h)
@@ -67,15 +65,15 @@ module _ (j : Journalist) (ring : List ℕ) (kind : Kind) (f s : List ℕ) where
     pub first-fits : length f ≤ firstLimit
     pub second-fits : length s ≤ secondLimit (isCloneKind kind)
 
-  within : Fits → Within j ring e
-  within t = record { hangs = t .hangs; first-fits = rw (p .one) (t .first-fits); second-fits = rw (p .two, p .most) (t .second-fits) }
+  within : Fits → Within e
+  within t = record { first-fits = rw (p .one) (t .first-fits); second-fits = rw (p .two, p .most) (t .second-fits) }
 
   region : {t : Bool} → regionTakes j weight ≡ t → canAppend j e ≡ t
   unfolding canAppend
   region h = rw (p .weight) h
 
   pub answers-5 : Fits → regionTakes j weight ≡ false → Answers (refuses 5) ring
-  answers-5 t h = refusal 5 (refuses-5 j ring e (within t) (region h))
+  answers-5 t h = refusal 5 (refuses-5 j ring e (t .hangs) (within t) (region h))
 
   -- the numbers of the record
   counted : Fits → Hangs j
@@ -90,7 +88,7 @@ module _ (j : Journalist) (ring : List ℕ) (kind : Kind) (f s : List ℕ) where
   room t l = let k = counted t .counts in let w = p .weight in le-leb (pendingBytes j + WeightJournalEntry e) (j .ring) (omega arith)
 
   pub answers-6 : Fits → regionTakes j weight ≡ true → j .ring - pendingBytes j < weight → Answers (refuses 6) ring
-  answers-6 t h l = refusal 6 (refuses-6 j ring e (within t) (region h) (full t l))
+  answers-6 t h l = refusal 6 (refuses-6 j ring e (t .hangs) (within t) (region h) (full t l))
 
   -- behind the ring's row the ring takes the entry too
   put : Fits → weight ≤ j .ring - pendingBytes j → Taken ring (j .start) (pendingBytes j) kind f s
@@ -100,7 +98,7 @@ module _ (j : Journalist) (ring : List ℕ) (kind : Kind) (f s : List ℕ) where
       record { inside = omega arith; holds = omega arith; first-fits = t .first-fits; second-fits = t .second-fits; room = omega arith }
 
   taken : Fits → regionTakes j weight ≡ true → weight ≤ j .ring - pendingBytes j → appendCall j ring e ≡ gives (appendedRecord j e)
-  taken t h l = append-takes j ring e (record { within = within t; region = region h; room = room t l })
+  taken t h l = append-takes j ring e (record { hangs = t .hangs; limits = within t; region = region h; room = room t l })
 
   -- the record with one more entry in memory
   abbrev pub next : Journalist
@@ -110,10 +108,11 @@ module _ (j : Journalist) (ring : List ℕ) (kind : Kind) (f s : List ℕ) where
   unfolding appendedRecord
   appended = rw (p .weight) refl
 
-  pub answers-done : Fits → regionTakes j weight ≡ true → weight ≤ j .ring - pendingBytes j → (r : Put) (after : List ℕ)
-      → (r, after) ≡ putEntry ring (j .start) (pendingBytes j) kind f s → Answers (gives next) after
-  unfolding ringAppended
-  answers-done t h l r after w =
+  pub answers-done : Fits → regionTakes j weight ≡ true → weight ≤ j .ring - pendingBytes j
+      → (r : Put) (after : List ℕ) (pending : ℕ) → (r, after) ≡ putEntry ring (j .start) pending kind f s → pending ≡ pendingBytes j
+      → Answers (gives next) after
+  answers-done t h l r after pending w is =
       let made = taken t h l in
-      let bytes : after ≡ withEntry ring (j .start) (pendingBytes j) e = ap (λ (o : Put × List ℕ). o .1) (w ∙ put-taken ring (j .start) (pendingBytes j) kind f s (put t l)) in
-      (sym (made ∙ ap gives appended), rw made bytes)
+      let put-there = put-taken ring (j .start) (pendingBytes j) kind f s (put t l) in
+      let bytes : after ≡ withEntry ring (j .start) (pendingBytes j) e = ap (λ (o : Put × List ℕ). o .1) (rw is at w ∙ put-there) in
+      (sym (made ∙ ap gives appended), bytes ∙ sym (ring-taken j ring e (appendedRecord j e) made))

@@ -10,8 +10,7 @@ use Rattle.refusals.proofs.Tests.{passed, failed, both}
 use Rattle.journalist.specs.Record.{hangsTogether}
 use Rattle.journalist.specs.Append.{ringHangs}
 use Rattle.journalist.proofs.Facts.{CountsOf, facts}
-use Rattle.journalist.proofs.AppendLaws.{regionTakes}
-use Rattle.journalist.proofs.Appending.{Fits, weight, answers-2, answers-3, answers-4, answers-5, answers-6, answers-done}
+use Rattle.journalist.proofs.Appending.{Fits, answers-2, answers-3, answers-4, answers-5, answers-6, answers-done}
 use Rattle.journalist.proofs.Journalist.append.Statement.{statement}
 use Rattle.journalist.proofs.Journalist.append.Tie as tie
 
@@ -28,11 +27,11 @@ together c = let a = start c .args in both (hangsTogether (a .self)) (eqb (lengt
 counted : (c : tie.Else1) → CountsOf (start c .args .self)
 counted c = facts (start c .args .self) (together c) .counts
 
-abbrev args : (c : tie.Else3) → tie.Start
-args c = start (c .before .before .before)
+abbrev begun : tie.Else3 → tie.Start
+begun c = start (c .before .before .before)
 
-fits : (c : tie.Else3) → let a = args c .args in Fits (a .self) (a .ring .now) (a .kind) (a .first .now) (a .second .now)
-fits c = record { hangs = hangs (c .before .before .before); first-fits = c .before .before .if2 .left; second-fits = omega (arith, c .before .second-limit .ensures, c .if3 .left) }
+fits : (c : tie.Else3) → let a = begun c .args in Fits (a .self) (a .ring .now) (a .kind) (a .first .now) (a .second .now)
+fits c = record { hangs = hangs (c .before .before .before); first-fits = omega (arith, c .before .before .if2 .left); second-fits = omega (arith, c .before .second-limit .ensures, c .if3 .left) }
 
 ring-hangs-requires : tie.Need-ring-hangs-requires
 ring-hangs-requires c κs = search needs
@@ -45,7 +44,7 @@ returns c =
 returns-2 : tie.Need-returns-2
 returns-2 c =
     let a = start (c .before) .args in
-    answers-3 (a .self) (a .ring .now) (a .kind) (a .first .now) (a .second .now) (hangs (c .before)) (c .if2 .taken)
+    answers-3 (a .self) (a .ring .now) (a .kind) (a .first .now) (a .second .now) (hangs (c .before)) (omega (arith, c .if2 .taken))
 
 second-limit-requires : tie.Need-second-limit-requires
 second-limit-requires c κs = search needs
@@ -53,7 +52,8 @@ second-limit-requires c κs = search needs
 returns-3 : tie.Need-returns-3
 returns-3 c =
     let a = start (c .before .before .before) .args in
-    answers-4 (a .self) (a .ring .now) (a .kind) (a .first .now) (a .second .now) (hangs (c .before .before .before)) (c .before .before .if2 .left)
+    answers-4 (a .self) (a .ring .now) (a .kind) (a .first .now) (a .second .now) (hangs (c .before .before .before))
+    (omega (arith, c .before .before .if2 .left))
     (omega (arith, c .before .second-limit .ensures, c .if3 .taken))
 
 add-weight : tie.Need-add-weight
@@ -67,7 +67,7 @@ region-takes-requires c κs = (together (c .before .before .before), omega (arit
 
 returns-4 : tie.Need-returns-4
 returns-4 c =
-    let a = args (c .before .before) .args in
+    let a = begun (c .before .before) .args in
     answers-5 (a .self) (a .ring .now) (a .kind) (a .first .now) (a .second .now) (fits (c .before .before)) (failed (c .before .region-takes .ensures) (c .if4 .taken))
 
 add-pending : tie.Need-add-pending
@@ -79,9 +79,9 @@ sub-if5 c = omega (arith, counted (c .before .before .before .before .before .be
 returns-5 : tie.Need-returns-5
 returns-5 c =
     let at = c .before .before .before in
-    let a = args (at .before .before) .args in
+    let a = begun (at .before .before) .args in
     answers-6 (a .self) (a .ring .now) (a .kind) (a .first .now) (a .second .now) (fits (at .before .before))
-    (passed (at .before .region-takes .ensures) (at .if4 .left)) (c .if5 .taken)
+    (passed (at .before .region-takes .ensures) (at .if4 .left)) (omega (arith, c .if5 .taken))
 
 put-entry-requires : tie.Need-put-entry-requires
 put-entry-requires c κs = search needs
@@ -100,9 +100,10 @@ returns-6 c =
     let put = c .before .before .before .before .before .before .put-entry in
     let at5 = c .before .before .before .before .before .before .before .before in
     let at4 = at5 .before .before .before in
-    let a = args (at4 .before .before) .args in
+    let a = begun (at4 .before .before) .args in
     answers-done (a .self) (a .ring .now) (a .kind) (a .first .now) (a .second .now) (fits (at4 .before .before))
-    (passed (at4 .before .region-takes .ensures) (at4 .if4 .left)) (at5 .if5 .left) (put .result) (put .last .0) (put .ensures)
+    (passed (at4 .before .region-takes .ensures) (at4 .if4 .left)) (omega (arith, at5 .if5 .left))
+    (put .result) (put .last .0) _ (put .ensures) (omega arith)
 
 pub append-spec : {M : Type 1} → statement M
 append-spec =
