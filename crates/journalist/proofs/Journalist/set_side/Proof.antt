@@ -1,42 +1,58 @@
+-- `set_side` meets its contract: each return is the row of `setSideCall` that its tests lead to, and the last copies the payload.
+-- Assumes nothing.
 use borrow.Author.Needs.{needs}
+use denote.Ref.{now}
+use Rattle.refusals.proofs.Tests.{passed, failed}
+use Rattle.journalist.proofs.Recovering.{side-uncounted, side-ragged, side-long, side-short, side-copied}
 use Rattle.journalist.proofs.Journalist.set_side.Statement.{statement}
 use Rattle.journalist.proofs.Journalist.set_side.Tie as tie
-use Rattle.journalist.proofs.Journalist.set_side.Reads as reads
-use Rattle.journalist.proofs.Journalist.set_side.Lts as lts
-use Rattle.bytes.proofs.copy.Reads as copy-reads
-use Rattle.journalist.proofs.Journalist.hangs_together.Reads as hangs-together-reads
 
--- src/recovery.rt:29:13
 hangs-together-requires : tie.Need-hangs-together-requires
 hangs-together-requires c κs = search needs
 
--- src/recovery.rt:30:13
 returns : tie.Need-returns
-returns c = ?
+returns c =
+    let a = c .before .before .before .before .args in
+    side-uncounted (a .self) (now (a .payload)) (now (a .buffer)) (failed (c .before .hangs-together .ensures) (c .if1 .taken))
 
--- src/recovery.rt:34:13
 returns-2 : tie.Need-returns-2
-returns-2 c = ?
+returns-2 c =
+    let d = c .before in
+    let a = d .before .before .before .before .args in
+    side-ragged (a .self) (now (a .payload)) (now (a .buffer)) (passed (d .before .hangs-together .ensures) (d .if1 .left)) (c .if2 .taken)
 
--- src/recovery.rt:37:13
 returns-3 : tie.Need-returns-3
-returns-3 c = ?
+returns-3 c =
+    let e = c .before .before in
+    let d = e .before in
+    let a = d .before .before .before .before .args in
+    side-long (a .self) (now (a .payload)) (now (a .buffer)) (passed (d .before .hangs-together .ensures) (d .if1 .left)) (e .if2 .left)
+    (c .if3 .taken)
 
--- src/recovery.rt:40:13
 returns-4 : tie.Need-returns-4
-returns-4 c = ?
+returns-4 c =
+    let f = c .before in
+    let e = f .before .before in
+    let d = e .before in
+    let a = d .before .before .before .before .args in
+    side-short (a .self) (now (a .payload)) (now (a .buffer)) (passed (d .before .hangs-together .ensures) (d .if1 .left)) (e .if2 .left)
+    (f .if3 .left) (c .if4 .taken)
 
--- src/recovery.rt:42:9
 copy-requires : tie.Need-copy-requires
 copy-requires c κs = search needs
 
--- src/recovery.rt:25:5
 same-length : tie.Need-same-length
 same-length c = search needs
 
--- src/recovery.rt:25:5
 returns-5 : tie.Need-returns-5
-returns-5 c = ?
+returns-5 c =
+    let g = c .before .before .before .before in
+    let f = g .before in
+    let e = f .before .before in
+    let d = e .before in
+    let a = d .before .before .before .before .args in
+    side-copied (a .self) (now (a .payload)) (now (a .buffer)) (passed (d .before .hangs-together .ensures) (d .if1 .left)) (e .if2 .left)
+    (f .if3 .left) (g .if4 .left) _ (c .before .before .copy .ensures .1)
 
 pub set-side-spec : {M : Type 1} → statement M
 set-side-spec =
