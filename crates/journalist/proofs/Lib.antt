@@ -1,4 +1,5 @@
 pub mod Facts
 pub mod Kept
 pub mod Recovering
+pub mod RecoveryLaws
 pub mod Determined
