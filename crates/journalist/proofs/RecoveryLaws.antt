@@ -148,7 +148,34 @@ module _ (j : Journalist) (front back d : List ℕ) where
   unfolding parseJournalsCall
   unread-refused h e = rw (h, e)
 
+  -- THE SOURCE'S CAP CANNOT BITE: front and back hold at most 2 × 1,024 × 4,064 / 8 entries, and the source takes up to 33,554,432
+  pub range-few : SidesHang j front back → (es : List JournalEntry) → parseJournalRange (sidesRange j front back) ≡ some es → length es ≤ 1040384
+  unfolding sidesRange rangeOf
+  range-few sides es reads =
+      let f = facts j (sides .hangs) in
+      let m = 4064 * sideBlocks (j .front) in
+      let n = 4064 * sideBlocks (j .back) in
+      let s = take m front ++ take n back in
+      let range : rangeOf s ≡ some es =
+      sides-read (sideBlocks (j .front)) (sideBlocks (j .back)) front back (sides .front-in) (sides .back-in) ∙ reads in
+      let fronts = side-few (j .blocks) (j .front) (f .front) in
+      let backs = side-few (j .blocks) (j .back) (f .back) in
+      let m-long = length-take-le m front (sides .front-in) in
+      let n-long = length-take-le n back (sides .back-in) in
+      let short : length s ≤ 2 * 1024 * 4064 = rw length-append (omega (arith, f .counts)) in
+      provided-parts (eqb (length s % 4064) 0) (parsePayload s) es range λ whole p. entries-few s es short p
+
   module _ (k : Journalist) (done : parseJournalsCall j front back d ≡ gives k) where
+    pub loaded-few : k .replay .entries ≤ 1040384
+    unfolding loadedRecord
+    loaded-few =
+        let t = load-taken k done in
+        let same : k .replay .entries ≡ length (t .entries) = ap (λ (r : Journalist). r .replay .entries) (t .made) in
+        omega (arith, range-few (t .sides) (t .entries) (t .reads))
+
+    pub below-cap : k .replay .entries < 33554432
+    below-cap = omega (arith, loaded-few)
+
     -- the record hangs together again: each entry weighs at least 8
     pub loaded-hangs : hangsTogether k ≡ true
     unfolding loadedRecord
@@ -165,26 +192,3 @@ module _ (j : Journalist) (front back d : List ℕ) where
           front = side-none (j .blocks);
           back = side-none (j .blocks);
         })
-
-    -- THE SOURCE'S CAP CANNOT BITE: at most 2 × 1,024 × 4,064 / 8 entries are loaded, and the source takes up to 33,554,432
-    pub loaded-few : k .replay .entries ≤ 1040384
-    unfolding loadedRecord sidesRange rangeOf
-    loaded-few =
-        let t = load-taken k done in
-        let f = facts j (t .sides .hangs) in
-        let es = t .entries in
-        let fb = sideBlocks (j .front) in
-        let bb = sideBlocks (j .back) in
-        let s = take (4064 * fb) front ++ take (4064 * bb) back in
-        let range : rangeOf s ≡ some es = sides-read fb bb front back (t .sides .front-in) (t .sides .back-in) ∙ t .reads in
-        let few₁ : fb ≤ j .blocks = side-few (j .blocks) (j .front) (f .front) in
-        let few₂ : bb ≤ j .blocks = side-few (j .blocks) (j .back) (f .back) in
-        let lf = length-take-le (4064 * fb) front (t .sides .front-in) in
-        let lb = length-take-le (4064 * bb) back (t .sides .back-in) in
-        let short : length s ≤ 2 * 1024 * 4064 = rw length-append (omega (arith, f .counts)) in
-        let many : length es ≤ 1040384 = provided-parts (eqb (length s % 4064) 0) (parsePayload s) es range λ whole p. entries-few s es short p in
-        let same : k .replay .entries ≡ length es = ap (λ (r : Journalist). r .replay .entries) (t .made) in
-        omega arith
-
-    pub below-cap : k .replay .entries < 33554432
-    below-cap = omega (arith, loaded-few)

@@ -29,18 +29,17 @@ impl Journalist {
         if !self.hangs_together() {
             return Length::Refused(Refusal::CountsDisagree);
         }
-        let blocks = payload.len() / 4064;
         if payload.len() % 4064 != 0 {
             return Length::Refused(Refusal::PayloadNotWhole);
         }
-        if self.blocks < blocks {
+        if self.blocks < payload.len() / 4064 {
             return Length::Refused(Refusal::PayloadNotWhole);
         }
         if buffer.len() < payload.len() {
             return Length::Refused(Refusal::OutputTooShort);
         }
         bytes::copy(payload, buffer);
-        Length::Blocks(blocks)
+        Length::Blocks(payload.len() / 4064)
     }
 
     // Keeps a payload's blocks as the front of the next load.

@@ -1,5 +1,6 @@
 -- `set_side` meets its contract: each return is the row of `setSideCall` that its tests lead to, and the last copies the payload.
 -- Assumes nothing.
+use native.Mathlib.Omega.{arith}
 use borrow.Author.Needs.{needs}
 use denote.Ref.{now}
 use Rattle.refusals.proofs.Tests.{passed, failed}
@@ -27,7 +28,7 @@ returns-3 c =
     let d = e .before in
     let a = d .before .before .before .before .args in
     side-long (a .self) (now (a .payload)) (now (a .buffer)) (passed (d .before .hangs-together .ensures) (d .if1 .left)) (e .if2 .left)
-    (c .if3 .taken)
+    (omega (arith, c .if3 .taken))
 
 returns-4 : tie.Need-returns-4
 returns-4 c =
@@ -36,7 +37,7 @@ returns-4 c =
     let d = e .before in
     let a = d .before .before .before .before .args in
     side-short (a .self) (now (a .payload)) (now (a .buffer)) (passed (d .before .hangs-together .ensures) (d .if1 .left)) (e .if2 .left)
-    (f .if3 .left) (c .if4 .taken)
+    (omega (arith, f .if3 .left)) (omega (arith, c .if4 .taken))
 
 copy-requires : tie.Need-copy-requires
 copy-requires c κs = search needs
@@ -52,7 +53,7 @@ returns-5 c =
     let d = e .before in
     let a = d .before .before .before .before .args in
     side-copied (a .self) (now (a .payload)) (now (a .buffer)) (passed (d .before .hangs-together .ensures) (d .if1 .left)) (e .if2 .left)
-    (f .if3 .left) (g .if4 .left) _ (c .before .before .copy .ensures .1)
+    (omega (arith, f .if3 .left)) (omega (arith, g .if4 .left)) _ (c .before .before .copy .ensures .1)
 
 pub set-side-spec : {M : Type 1} → statement M
 set-side-spec =
