@@ -1,3 +1,5 @@
 pub mod Facts
 pub mod Kept
 pub mod Determined
+pub mod Packaging
+pub mod PackageRows
