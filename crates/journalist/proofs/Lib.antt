@@ -5,3 +5,5 @@ pub mod RecoveryLaws
 pub mod Determined
 pub mod AppendLaws
 pub mod Appending
+pub mod Packaging
+pub mod PackageRows

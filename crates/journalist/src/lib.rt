@@ -1,5 +1,7 @@
 // The journal's record by value, whether its counts hang together, and the calls on it. A call takes the record and gives the new one in its answer;
 // a refusal gives only its reason.
+mod append;
+mod package;
 mod recovery;
 
 ghost use mathlib.Core.Path.{_≡_};
@@ -10,8 +12,6 @@ ghost use Rattle.journalist.specs.Answers.{recordOutcome, askedOutcome, 
 ghost use Rattle.journalist.specs.Calls.{openCall, freezeCall, setWrittenJournalLenCall, updateWrittenJournalLenCall, queryCall, hasFrozenJournal, hasInMemoryJournal, isReplayEmpty, present};
 use refusals::Refusal;
 use replay_cursor::Replay;
-
-mod append;
 
 // A list of pending entries in the ring: how many, and the bytes of their wire forms.
 pub struct Pending {
