@@ -1,6 +1,6 @@
 -- What the tests of top and pop tell of a cursor and a buffer, and the row that each of them leads to. Assumes nothing.
 use Prim.Native.Nat.{ℕ, _+_, _-_, _≤_, _<_}
-use mathlib.Core.Bool.{Bool, true, false, not, _&&_, and-false}
+use mathlib.Core.Bool.{Bool, true, false, not, and-false}
 use mathlib.Core.List.{List, [], _++_, append-nil}
 use mathlib.Core.Path.{_≡_, refl, sym, ap, _∙_, subst}
 use native.Mathlib.Omega.{arith}
@@ -89,6 +89,19 @@ module _ (c : Replay) (s : List ℕ) {A : Type 0} (rest : EntryPlace → Outcome
       go true true r e n q x = impossible cc
       go false z r e n q x = impossible cc
 
+  -- where 14 is answered, an entry did not read, or what follows answers it
+  pub then-14 : {C : Type 0} → topThen c s rest ≡ refuses 14 → (liesIn c s ≡ true → topEntry c s ≡ Unreadable → C)
+      → ((p : EntryPlace) → Found c s p → rest p ≡ refuses 14 → C) → C
+  unfolding topThen
+  then-14 {C} h unread k = go (liesIn c s) (eqb (c .entries) 0) (topEntry c s) refl refl refl h
+    where
+      go : (t z : Bool) (r : EntryRead) → liesIn c s ≡ t → eqb (c .entries) 0 ≡ z → topEntry c s ≡ r
+          → (require t else 2 then require not z else 8 then readAs r rest) ≡ refuses 14 → C
+      go true false (Read p) e n r x = k p (record { lies = e; some-left = eqb-false (c .entries) 0 n; reads = r }) x
+      go true false Unreadable e n r x = unread e r
+      go true true r e n q x = let z : _≡_ {A = ℕ} 8 14 = cc in absurd (omega arith)
+      go false z r e n q x = let y : _≡_ {A = ℕ} 2 14 = cc in absurd (omega arith)
+
   -- a refusal of those tests is a refusal of the whole
   pub then-refused : (n : ℕ) → refuses n ≡ topThen c s gives → refuses n ≡ topThen c s rest
   unfolding topThen
@@ -145,6 +158,9 @@ found-numbers c s p f =
 abbrev pub restHangs : Replay → (next : ℕ) → Bool
 restHangs c next = countsHang (restBehind c next .entries) (restBehind c next .bytes)
 
+abbrev pub behind : Replay → EntryPlace → Outcome Replay
+behind c p = require restHangs c (p .next) else 14 then gives (restBehind c (p .next))
+
 module _ (c : Replay) (s : List ℕ) where
   pub top-found : (p : EntryPlace) → Found c s p → gives (topOf p) ≡ topCall c s
   unfolding topCall
@@ -154,17 +170,14 @@ module _ (c : Replay) (s : List ℕ) where
   unfolding topCall
   top-refused n h = then-refused c s (λ p. gives (topOf p)) n h
 
-  abbrev behind : EntryPlace → Outcome Replay
-  behind p = require restHangs c (p .next) else 14 then gives (restBehind c (p .next))
-
   pub pop-found : (p : EntryPlace) → Found c s p → restHangs c (p .next) ≡ true → gives (restBehind c (p .next)) ≡ popCall c s
   unfolding popCall
-  pop-found p f e = sym (row-found c s behind p f ∙ rw e)
+  pop-found p f e = sym (row-found c s (behind c) p f ∙ rw e)
 
   pub pop-unhung : (p : EntryPlace) → Found c s p → restHangs c (p .next) ≡ false → refuses 14 ≡ popCall c s
   unfolding popCall
-  pop-unhung p f e = sym (row-found c s behind p f ∙ rw e)
+  pop-unhung p f e = sym (row-found c s (behind c) p f ∙ rw e)
 
   pub pop-refused : (n : ℕ) → refuses n ≡ topThen c s gives → refuses n ≡ popCall c s
   unfolding popCall
-  pop-refused n h = then-refused c s behind n h
+  pop-refused n h = then-refused c s (behind c) n h
