@@ -115,16 +115,16 @@ module _ (s : List ℕ) (at end : ℕ) (e : JournalEntry) (rest : List ℕ) (ins
       let b = bridge-read s at end p r in
       let same : _≡_ {A = JournalEntry × List ℕ} (entryAtPlace s p, part s (p .next) end) (e, rest) = cc in
       let entry : entryAtPlace s p ≡ e = ap (λ (x : JournalEntry × List ℕ). x .0) same in
-      let behind : part s (p .next) end ≡ rest = ap (λ (x : JournalEntry × List ℕ). x .1) same in
+      let after : part s (p .next) end ≡ rest = ap (λ (x : JournalEntry × List ℕ). x .1) same in
       let weighs = parseEntry-sound (part s at end) (e, rest) parses .weighs in
       let next : p .next ≡ at + WeightJournalEntry e =
-      omega (arith, b .next-before, weighs, ap length behind, length-part s at end inside, length-part s (p .next) end inside) in
+      omega (arith, b .next-before, weighs, ap length after, length-part s at end inside, length-part s (p .next) end inside) in
       let is : p ≡ placeAt s at = read-told s at end p r .1 in
       record {
         reads = r ∙ ap Read is;
         entry-is = ap (λ (q : EntryPlace). entryAtPlace s q) (sym (placed s at end (placeAt s at) (r ∙ ap Read is)) ∙ sym is) ∙ entry;
         next-is = ap (λ (q : EntryPlace). q .next) (sym is) ∙ next;
-        rest-is = ap (λ (n : ℕ). part s n end) (sym next) ∙ behind;
+        rest-is = ap (λ (n : ℕ). part s n end) (sym next) ∙ after;
         room = omega (arith, b .next-before, next);
       }
 

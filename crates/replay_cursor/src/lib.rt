@@ -77,12 +77,8 @@ impl Replay {
         if self.entries == 0 {
             return PlaceRead::Refused(Refusal::NothingThere);
         }
-        let read = journal_entry::entry_at(
-            replay,
-            &replay[0..0],
-            self.place,
-            self.place + self.bytes,
-        );
+        let end = self.place + self.bytes;
+        let read = journal_entry::entry_at(replay, &replay[0..0], self.place, end);
         match read {
             EntryRead::Unreadable => PlaceRead::Refused(Refusal::Unreadable),
             EntryRead::Read(p) => PlaceRead::Read(p),

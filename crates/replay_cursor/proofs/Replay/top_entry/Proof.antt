@@ -24,6 +24,11 @@ returns c = sym (row-2 _ _ gives (failed (c .before .lies-in .ensures) (c .if1 .
 returns-2 : tie.Need-returns-2
 returns-2 c = sym (row-8 _ _ gives (lies (c .before .before)) (c .if2 .taken))
 
+add-end : tie.Need-add-end
+add-end c =
+    let x = c .before .before .before .before .before .before .args in
+    omega (arith, lies-facts (x .self) (now (x .replay)) (lies (c .before .before .before)))
+
 sub-entry-at : tie.Need-sub-entry-at
 sub-entry-at c = search needs
 
@@ -32,11 +37,6 @@ part-entry-at-start c = search needs
 
 part-entry-at-end : tie.Need-part-entry-at-end
 part-entry-at-end c = search needs
-
-add-entry-at : tie.Need-add-entry-at
-add-entry-at c =
-    let x = c .before .before .before .before .before .before .before .args in
-    omega (arith, lies-facts (x .self) (now (x .replay)) (lies (c .before .before .before .before)))
 
 entry-at-requires : tie.Need-entry-at-requires
 entry-at-requires c κs = search needs
@@ -64,10 +64,10 @@ top-entry-spec =
     lies-in-requires
     returns
     returns-2
+    add-end
     sub-entry-at
     part-entry-at-start
     part-entry-at-end
-    add-entry-at
     entry-at-requires
     enum-told
     enum-known-read
