@@ -1,3 +1,4 @@
 pub mod Facts
 pub mod Kept
 pub mod Determined
+pub mod Replaying

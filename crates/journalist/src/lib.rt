@@ -9,6 +9,8 @@ ghost use Rattle.journalist.specs.Calls.{openCall, freezeCall, setWritte
 use refusals::Refusal;
 use replay_cursor::Replay;
 
+mod replay;
+
 // A list of pending entries in the ring: how many, and the bytes of their wire forms.
 pub struct Pending {
     pub entries: usize,
