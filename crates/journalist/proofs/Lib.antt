@@ -7,3 +7,4 @@ pub mod AppendLaws
 pub mod Appending
 pub mod Packaging
 pub mod PackageRows
+pub mod Replaying
