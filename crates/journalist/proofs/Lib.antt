@@ -3,3 +3,4 @@ pub mod Kept
 pub mod Determined
 pub mod Packaging
 pub mod PackageRows
+pub mod PackageLaws
