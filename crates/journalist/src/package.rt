@@ -140,11 +140,11 @@ impl Journalist {
             return Packaged::Refused(Refusal::RingUnreadable);
         }
         let weight = list_weight(self.memory);
-        let blocks = blocks_for(weight);
-        if out.len() < 4096 * blocks {
+        let more = blocks_for(weight);
+        if out.len() < 4096 * more {
             return Packaged::Refused(Refusal::OutputTooShort);
         }
-        write_batch(ring, self.start, self.memory, blocks, out);
+        write_batch(ring, self.start, self.memory, more, out);
         Packaged::Done {
             journalist: Journalist {
                 start: 0,
@@ -152,10 +152,10 @@ impl Journalist {
                     entries: 0,
                     bytes: 0,
                 },
-                written: self.written + blocks,
+                written: self.written + more,
                 ..self
             },
-            blocks: blocks,
+            blocks: more,
         }
     }
 }
