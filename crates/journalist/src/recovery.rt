@@ -79,12 +79,12 @@ impl Journalist {
         if !self.hangs_together() {
             return false;
         }
-        let before = self.front;
-        if front.len() / 4064 < side_blocks(before) {
+        let first = self.front;
+        if front.len() / 4064 < side_blocks(first) {
             return false;
         }
-        let behind = self.back;
-        side_blocks(behind) <= back.len() / 4064
+        let second = self.back;
+        side_blocks(second) <= back.len() / 4064
     }
 
     // Load: reads front, then back, as one range, and puts the entries' wire forms to the replay buffer.
