@@ -1,7 +1,7 @@
 -- What top and pop say of the bytes left: top's entry is the one that `parseEntry` reads from them, and what pop leaves lies in the buffer behind it.
 -- Assumes nothing.
 use Prim.Native.Nat.{ℕ, _+_, _≤_}
-use mathlib.Core.Bool.{Bool, true, false}
+use mathlib.Core.Bool.{true}
 use mathlib.Core.List.{List}
 use mathlib.Core.Option.{none, some}
 use mathlib.Core.Path.{_≡_, refl, sym, ap, _∙_, subst}
