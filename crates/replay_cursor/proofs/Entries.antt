@@ -1,7 +1,7 @@
 -- What top and pop say of the bytes left: top's entry is the one that `parseEntry` reads from them, and what pop leaves lies in the buffer behind it.
 -- Assumes nothing.
 use Prim.Native.Nat.{ℕ, _+_, _≤_}
-use mathlib.Core.Bool.{Bool, true, false}
+use mathlib.Core.Bool.{true}
 use mathlib.Core.List.{List}
 use mathlib.Core.Option.{none, some}
 use mathlib.Core.Path.{_≡_, refl, sym, ap, _∙_, subst}
@@ -9,6 +9,7 @@ use native.Mathlib.Omega.{arith}
 use lib.ListN.{length}
 use Rattle.refusals.specs.Outcome.{gives, refuses, require_else_then_}
 use Rattle.refusals.proofs.Tests.{impossible}
+use Rattle.refusals.proofs.Outcomes.{gives-same, require-told}
 use Rattle.journal_entry.specs.Entry.{JournalEntry, WeightJournalEntry}
 use Rattle.journal_entry.specs.Parse.{parseEntry}
 use Rattle.journal_entry.specs.Places.{placeAt, entryAt, entryAtPlace, part}
@@ -23,7 +24,7 @@ use Rattle.replay_cursor.specs.declared.Replay.{Replay}
 use Rattle.replay_cursor.specs.declared.Top.{Top}
 use Rattle.replay_cursor.specs.Cursor.{countsHang, liesIn, topEntry, topOf, placeOf, entryAtTop, restBehind}
 use Rattle.replay_cursor.specs.Calls.{topCall, popCall}
-use Rattle.replay_cursor.proofs.Rows.{lies-facts, lies-true, Found, then-gave, then-14, found-numbers, top-found, restHangs, behind}
+use Rattle.replay_cursor.proofs.Rows.{lies-facts, lies-true, Found, row-found, then-gave, then-14, found-numbers, top-found, restHangs, behind}
 
 -- the bytes left
 abbrev pub left : Replay → (replay : List ℕ) → List ℕ
@@ -35,15 +36,17 @@ unfolding placeAt
 placed s at end p e = subst (λ (q : EntryPlace). q ≡ placeOf (topOf q)) (sym (read-told s at end p e .1)) refl
 
 module _ (c : Replay) (s : List ℕ) where
+  top-place : (t : Top) (p : EntryPlace) → Found c s p → gives (topOf p) ≡ gives t → p ≡ placeOf t
+  unfolding topEntry
+  top-place t p f x = placed s (c .place) (c .place + c .bytes) p (f .reads) ∙ ap placeOf (gives-same x)
+
   pub top-parses : (t : Top) → topCall c s ≡ gives t
       → parseEntry (left c s) ≡ some (entryAtTop s t, part s (placeOf t .next) (c .place + c .bytes))
   unfolding topCall topEntry
   top-parses t h =
       then-gave c s (λ p. gives (topOf p)) t h λ p f x.
-      let is : topOf p ≡ t = cc in
-      let there : p ≡ placeOf t = placed s (c .place) (c .place + c .bytes) p (f .reads) ∙ ap placeOf is in
       bridge-read s (c .place) (c .place + c .bytes) p (f .reads) .parses
-      ∙ ap (λ (q : EntryPlace). some (entryAtPlace s q, part s (q .next) (c .place + c .bytes))) there
+      ∙ ap (λ (q : EntryPlace). some (entryAtPlace s q, part s (q .next) (c .place + c .bytes))) (top-place t p f x)
 
   not-parsed : liesIn c s ≡ true → topEntry c s ≡ Unreadable → parseEntry (left c s) ≡ none
   unfolding topEntry
@@ -53,6 +56,14 @@ module _ (c : Replay) (s : List ℕ) where
   unfolding topCall
   top-unread h = then-14 c s (λ p. gives (topOf p)) h not-parsed (λ p f x. impossible cc)
 
+  -- pop leaves what is behind top's entry, if its counts hang together
+  pub pop-behind-top : (t : Top) → topCall c s ≡ gives t
+      → popCall c s ≡ (require restHangs c (placeOf t .next) else 14 then gives (restBehind c (placeOf t .next)))
+  unfolding topCall popCall
+  pop-behind-top t h =
+      then-gave c s (λ p. gives (topOf p)) t h λ p f x.
+      row-found c s (behind c) p f ∙ ap (behind c) (top-place t p f x)
+
 -- what pop leaves hangs together again, and ends where the cursor ended
 pub record Behind (c d : Replay) : Type 0 where
   pub counted : countsHang (d .entries) (d .bytes) ≡ true
@@ -60,16 +71,12 @@ pub record Behind (c d : Replay) : Type 0 where
   pub one-less : d .entries + 1 ≡ c .entries
   pub further : c .place + 8 ≤ d .place
 
-hung : (t : Bool) (d e : Replay) → (require t else 14 then gives d) ≡ gives e → (t ≡ true) × (d ≡ e)
-hung true d e x = (refl, cc)
-hung false d e x = impossible cc
-
 module _ (c : Replay) (s : List ℕ) (d : Replay) (h : popCall c s ≡ gives d) where
   popped : {C : Type 0} → ((p : EntryPlace) → Found c s p → restHangs c (p .next) ≡ true → restBehind c (p .next) ≡ d → C) → C
   unfolding popCall
   popped k =
       then-gave c s (behind c) d h λ p f x.
-      let (counted, is) = hung (restHangs c (p .next)) (restBehind c (p .next)) d x in k p f counted is
+      require-told (restHangs c (p .next)) 14 (gives (restBehind c (p .next))) d x λ counted y. k p f counted (gives-same y)
 
   pub popped-behind : Behind c d
   popped-behind =
