@@ -1,0 +1,5 @@
+pub mod Counts
+pub mod Images
+pub mod Invariant
+pub mod Steps
+pub mod Packaging
