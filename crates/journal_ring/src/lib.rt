@@ -83,7 +83,7 @@ fn mark_of(kind: Kind) -> u32
 }
 
 // The most second bytes of the kind.
-fn second_limit(kind: Kind) -> usize
+pub fn second_limit(kind: Kind) -> usize
     ensures { λ r. ⌜ r ≡ secondLimit (isCloneKind kind) ⌝ }
     ensures { λ r. ⌜ r ≤ 1024 ⌝ }
 {

@@ -16,7 +16,7 @@ use Rattle.journalist.specs.declared.Side.the-variants.{Absent, Blocks}
 use Rattle.journalist.specs.declared.Journalist.{Journalist}
 
 -- two comparisons are the same where each gives the other
-leb-same : (a b c d : ℕ) → (a ≤ b → c ≤ d) → (c ≤ d → a ≤ b) → leb a b ≡ leb c d
+pub leb-same : (a b c d : ℕ) → (a ≤ b → c ≤ d) → (c ≤ d → a ≤ b) → leb a b ≡ leb c d
 leb-same a b c d f g =
     same (leb a b) (leb c d) (λ h. le-leb c d (f (leb-true a b h))) (λ h. le-leb a b (g (leb-true c d h)))
 

@@ -1,3 +1,10 @@
 pub mod Facts
 pub mod Kept
+pub mod Recovering
+pub mod RecoveryLaws
 pub mod Determined
+pub mod AppendLaws
+pub mod Appending
+pub mod Packaging
+pub mod PackageRows
+pub mod Replaying

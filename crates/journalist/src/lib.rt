@@ -1,5 +1,10 @@
 // The journal's record by value, whether its counts hang together, and the calls on it. A call takes the record and gives the new one in its answer;
 // a refusal gives only its reason.
+mod append;
+mod package;
+mod recovery;
+mod replay;
+
 ghost use mathlib.Core.Path.{_≡_};
 ghost use Prim.Native.Nat.{_+_, min};
 ghost use lib.Dec.{leb};
