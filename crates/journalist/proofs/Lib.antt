@@ -1,4 +1,5 @@
 pub mod Facts
+pub mod WrittenLaws
 pub mod Kept
 pub mod Recovering
 pub mod RecoveryLaws
