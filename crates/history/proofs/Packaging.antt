@@ -1,5 +1,5 @@
 -- Both packagings keep what holds between the calls of a history: the ring's bytes read as the plain lists, and the image is the list's. Assumes nothing.
-use mathlib.Core.Path.{_≡_, refl, sym, ap, ap₂, _∙_, subst}
+use mathlib.Core.Path.{_≡_, refl, sym, ap, ap₂, _∙_, subst₂}
 use mathlib.Core.Bool.{true}
 use mathlib.Core.List.{List, [], _∷_, _++_, append-assoc, append-nil}
 use mathlib.Core.Option.{some, Option·getD}
@@ -23,8 +23,7 @@ use Rattle.journalist.specs.Record.{listWeight, blocksFor}
 use Rattle.journalist.specs.Changes.{packagedFrozenRecord, packagedInMemoryRecord}
 use Rattle.journalist.specs.Package.{frozenRead, memoryRead, memoryBlocks, packageFrozenJournalCall, packageInMemoryJournalCall, frozenImage, memoryImage, frozenPackaged, memoryPackaged}
 use Rattle.journalist.proofs.Facts.{facts, weight-is}
-use Rattle.journalist.proofs.PackageGiven.{PackagesFrozen, PackagesInMemory, package-frozen-given, package-in-memory-given}
-use Rattle.journalist.proofs.PackageLaws.{packaged-frozen-hangs, packaged-memory-hangs}
+use Rattle.journalist.proofs.PackageLaws.{FrozenGiven, MemoryGiven, frozen-told, memory-told, packaged-frozen-hangs, packaged-memory-hangs}
 use Rattle.history.specs.Lists.{packagingFrozen, packagingInMemory}
 use Rattle.history.specs.Calls.{leaves, recordOf, imageIn}
 use Rattle.history.specs.History.{World, Image, following, countsOf}
@@ -81,11 +80,11 @@ module _ (n : ℕ) (w : World) (i : Invariant n w) where
       rw (frozen-sum n w i, memory-sum n w i, held, ap (λ l. l .entries) (i .after .memory-counts)) (readExactly-wires memory (i .memory-within))
 
   -- package frozen
-  module _ (out : List ℕ) (t : PackagesFrozen j (w .ring) out) where
+  module _ (out : List ℕ) (t : FrozenGiven j (w .ring) out) where
     frozen-holds : Holds frozen (j .held)
     frozen-holds =
         let k = facts j (i .hangs) .counts in
-        let some = t .some in
+        let some = t .some-entries in
         let each = eight-each frozen in
         let many = ap (λ l. l .entries) (i .after .frozen-counts) in
         record {
@@ -144,14 +143,14 @@ module _ (n : ℕ) (w : World) (i : Invariant n w) where
           (following w packagingFrozen
           (leaves (recordOf o) j (w .ring) (imageIn o (bytesAfter o (frozenImage j (w .ring) ++ drop (4096 * j .held) out) out))))
       go (gives k) h =
-          let (t, is) = package-frozen-given j (w .ring) out k h in
-          subst (λ (x : Journalist × ℕ). Invariant n (following w packagingFrozen (leaves (gives (x .0)) j (w .ring) (some (take (4096 * x .1) (frozenImage j (w .ring) ++ drop (4096 * j .held) out))))))
-          is (frozen-packaged out t)
+          let (t, is, blocks) = frozen-told j (w .ring) out (k .0) (k .1) h in
+          subst₂ (λ (x : Journalist) (b : ℕ). Invariant n (following w packagingFrozen (leaves (gives x) j (w .ring) (some (take (4096 * b) (frozenImage j (w .ring) ++ drop (4096 * j .held) out))))))
+          is blocks (frozen-packaged out t)
       go (refuses number) h = i
       go (refusesBlock number block) h = i
 
   -- package in memory
-  module _ (out : List ℕ) (t : PackagesInMemory j (w .ring) out) where
+  module _ (out : List ℕ) (t : MemoryGiven j (w .ring) out) where
     weight : listWeight (j .memory) ≡ WeightJournalEntries memory
     weight = weight-of (j .memory) memory (i .after .memory-counts)
 
@@ -163,7 +162,7 @@ module _ (n : ℕ) (w : World) (i : Invariant n w) where
     memory-holds =
         let k = facts j (i .hangs) .counts in
         let weighs = weight-is (j .memory) (k .memory-most) in
-        let some = t .some in
+        let some = t .some-entries in
         let each = eight-each memory in
         let many = ap (λ l. l .entries) (i .after .memory-counts) in
         record {
@@ -225,8 +224,8 @@ module _ (n : ℕ) (w : World) (i : Invariant n w) where
           (following w packagingInMemory
           (leaves (recordOf o) j (w .ring) (imageIn o (bytesAfter o (memoryImage j (w .ring) ++ drop (4096 * memoryBlocks j) out) out))))
       go (gives k) h =
-          let (t, is) = package-in-memory-given j (w .ring) out k h in
-          subst (λ (x : Journalist × ℕ). Invariant n (following w packagingInMemory (leaves (gives (x .0)) j (w .ring) (some (take (4096 * x .1) (memoryImage j (w .ring) ++ drop (4096 * memoryBlocks j) out))))))
-          is (memory-packaged out t)
+          let (t, is, blocks) = memory-told j (w .ring) out (k .0) (k .1) h in
+          subst₂ (λ (x : Journalist) (b : ℕ). Invariant n (following w packagingInMemory (leaves (gives x) j (w .ring) (some (take (4096 * b) (memoryImage j (w .ring) ++ drop (4096 * memoryBlocks j) out))))))
+          is blocks (memory-packaged out t)
       go (refuses number) h = i
       go (refusesBlock number block) h = i

@@ -92,7 +92,7 @@ module _ (n : ℕ) (w : World) (i : Invariant n w) where
           hangs = appended-hangs (w .journalist) e (i .hangs) (t .region) (t .room);
           ring-long = after-long ∙ i .ring-long;
           frozen-within = i .frozen-within;
-          memory-within = within-append (w .lists .memory) (e ∷ []) (i .memory-within) (record { first-fits = t .within .first-fits; second-fits = t .within .second-fits }, tt);
+          memory-within = within-append (w .lists .memory) (e ∷ []) (i .memory-within) (t .limits, tt);
         }
 
   pub after-append : (e : JournalEntry)

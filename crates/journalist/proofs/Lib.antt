@@ -9,3 +9,4 @@ pub mod Appending
 pub mod Packaging
 pub mod PackageRows
 pub mod Replaying
+pub mod PackageLaws
