@@ -3,3 +3,5 @@ pub mod Images
 pub mod Invariant
 pub mod Steps
 pub mod Packaging
+pub mod Others
+pub mod History
