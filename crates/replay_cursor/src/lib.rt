@@ -9,6 +9,8 @@ use journal_entry::EntryRead;
 use journal_entry::Kind;
 use refusals::Refusal;
 
+pub mod lent;
+
 // What is left of the replay: from a place of the replay buffer on, so many bytes, which are so many entries.
 pub struct Replay {
     pub place: usize,
