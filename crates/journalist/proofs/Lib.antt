@@ -1,9 +1,12 @@
 pub mod Facts
 pub mod Kept
-pub mod Recovering
-pub mod RecoveryLaws
-pub mod Determined
-pub mod AppendLaws
+pub mod WrittenLaws
 pub mod Appending
+pub mod AppendLaws
 pub mod Packaging
 pub mod PackageRows
+pub mod PackageLaws
+pub mod Recovering
+pub mod RecoveryLaws
+pub mod Replaying
+pub mod Determined

@@ -3,6 +3,7 @@
 mod append;
 mod package;
 mod recovery;
+mod replay;
 
 ghost use mathlib.Core.Path.{_≡_};
 ghost use Prim.Native.Nat.{_+_, min};

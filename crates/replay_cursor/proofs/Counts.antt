@@ -44,4 +44,3 @@ counts-more e b s =
     same (leb e (b / 8)) (countsHang e b)
     (λ h. let k = leb-true e (b / 8) h in counts-true e b (omega arith) (λ q. absurd (s q)))
     (λ h. let k = counts-least e b h in le-leb e (b / 8) (omega arith))
-

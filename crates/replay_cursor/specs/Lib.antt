@@ -1,3 +1,4 @@
 pub mod Cursor
 pub mod Answers
 pub mod Calls
+pub mod Lent

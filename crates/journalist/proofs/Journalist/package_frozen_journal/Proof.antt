@@ -53,7 +53,7 @@ returns-2 : tie.Need-returns-2
 returns-2 c =
     let p = c .before .before in
     let s = start p in
-    frozen-8 (record-of s) (ring-of s) (out-of s) (hangs p) (c .if2 .taken)
+    frozen-8 (record-of s) (ring-of s) (out-of s) (hangs p) (omega (arith, c .if2 .taken))
 
 ring-reads-requires : tie.Need-ring-reads-requires
 ring-reads-requires c κs =

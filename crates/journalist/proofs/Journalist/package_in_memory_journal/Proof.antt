@@ -72,7 +72,7 @@ returns-3 : tie.Need-returns-3
 returns-3 c =
     let p = c .before .before .before .before in
     let s = start p in
-    memory-8 (record-of s) (ring-of s) (out-of s) (hangs p) (c .before .before .if2 .left) (c .if3 .taken)
+    memory-8 (record-of s) (ring-of s) (out-of s) (hangs p) (c .before .before .if2 .left) (omega (arith, c .if3 .taken))
 
 ring-reads-requires : tie.Need-ring-reads-requires
 ring-reads-requires c κs =

@@ -107,7 +107,8 @@ same-length-3 c = search needs
 returns-4 : tie.Need-returns-4
 returns-4 c =
     let k = c .before .before .before in
-    answered (k .before .before .before .before) (Loaded (k .read .given .0 .0) (k .read .given .0 .1 .0)) (k .read .given .1)
+    let t = answered (k .before .before .before .before) (Loaded (k .read .given .0 .0) (k .read .given .0 .1 .0)) (k .read .given .1) in
+    (simp (sym (t .0)), t .1)
 
 pub parse-journals-spec : {M : Type 1} → statement M
 parse-journals-spec =
