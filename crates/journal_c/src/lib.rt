@@ -11,6 +11,11 @@ ghost use Rattle.journal_c.specs.Numbers.{outputAfter};
 ghost use Rattle.journal_c.specs.Checksum.{checksumCall};
 ghost use Rattle.journal_c.specs.Totals.{totalsCall};
 ghost use Rattle.journal_c.specs.Writing.{putTaken, imageTaken};
+
+mod queries;
+mod record;
+mod recovery;
+
 use journal_entry::Kind;
 use journal_image::Stripped;
 use journal_range::RangeRead;

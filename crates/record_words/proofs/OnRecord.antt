@@ -19,6 +19,10 @@ use Rattle.record_words.proofs.RoundTrip.{decoded-words}
 abbrev pub Settled : (words : List ℕ) → Outcome Journalist → (code : ℕ) (after : List ℕ) → Type 0
 Settled words o code after = (code ≡ codeOf o) × (after ≡ wordsAfter words o)
 
+-- and a lent buffer beside them
+abbrev pub SettledWith : (words : List ℕ) → Outcome Journalist → (left : List ℕ) → (code : ℕ) (after buffer : List ℕ) → Type 0
+SettledWith words o left code after buffer = (code ≡ codeOf o) × ((after ≡ wordsAfter words o) × (buffer ≡ left))
+
 fits : (words : List ℕ) → 17 ≤ length words → (o : Outcome Journalist) → fittedTo words o ≡ o
 fits words h (gives j) = simp (le-leb 17 (length words) h)
 fits words h (refuses number) = refl
@@ -32,6 +36,11 @@ no-room words answer j code told h nine = rw (told, lt-leb 17 (length words) h) 
 pub room : (words after : List ℕ) (answer : Recorded) (j : Journalist) → answer ≡ Done j → 17 ≤ length words → after ≡ wordsOf j ++ drop 17 words
     → Settled words (fittedTo words (recordOutcome answer)) 0 after
 room words after answer j told h stored = rw (told, le-leb 17 (length words) h) (refl, stored)
+
+-- the outcome by another name
+pub put-as : (words : List ℕ) (o : Outcome Journalist) (answer : Recorded) (code : ℕ) (after : List ℕ) → recordOutcome answer ≡ o
+    → Settled words (fittedTo words (recordOutcome answer)) code after → Settled words (fittedTo words o) code after
+put-as words o answer code after e put = (put .0 ∙ ap (λ (x : Outcome Journalist). codeOf (fittedTo words x)) e, put .1 ∙ ap (λ (x : Outcome Journalist). wordsAfter words (fittedTo words x)) e)
 
 -- a call is refused where the words are damaged, and else goes to the record that they say. The words come as a caller has them: `d` is what was decoded
 module _ (words : List ℕ) (d : Decoded) (is : d ≡ decodeOf words) where
@@ -54,11 +63,18 @@ module _ (words : List ℕ) (d : Decoded) (is : d ≡ decodeOf words) where
       let same = fits words long (recordOutcome answer) ∙ outcome ∙ sym (called call j told) in
       (put .0 ∙ ap codeOf same, put .1 ∙ ap (wordsAfter words) same)
 
-  -- what it leaves in a lent buffer
-  pub lent-damaged : (lent : List ℕ) (left : Journalist → List ℕ) → d ≡ Damaged → lent ≡ lentAfter words lent left
+  -- the same of a call that may change a lent buffer too
+  pub damaged-lent : (call : Journalist → Outcome Journalist) (lent : List ℕ) (left : Journalist → List ℕ) (code : ℕ) → d ≡ Damaged → code ≡ 2
+      → SettledWith words (onRecord words call) (lentAfter words lent left) code words lent
   unfolding lentAfter
-  lent-damaged lent left told = sym (ap (λ (x : Decoded). lentDecoded x lent left) (sym is ∙ told))
+  damaged-lent call lent left code told two =
+      let both = damaged call code told two in
+      (both .0, (both .1, sym (ap (λ (x : Decoded). lentDecoded x lent left) (sym is ∙ told))))
 
-  pub lent-changed : (lent after : List ℕ) (left : Journalist → List ℕ) (j : Journalist) → d ≡ Of j → after ≡ left j → after ≡ lentAfter words lent left
+  pub changed-lent : (call : Journalist → Outcome Journalist) (lent : List ℕ) (left : Journalist → List ℕ) (j : Journalist) (answer : Recorded) (code : ℕ) (after buffer : List ℕ)
+      → d ≡ Of j → recordOutcome answer ≡ call j → buffer ≡ left j → Settled words (fittedTo words (recordOutcome answer)) code after
+      → SettledWith words (onRecord words call) (lentAfter words lent left) code after buffer
   unfolding lentAfter
-  lent-changed lent after left j told e = e ∙ sym (ap (λ (x : Decoded). lentDecoded x lent left) (sym is ∙ told))
+  changed-lent call lent left j answer code after buffer told outcome kept put =
+      let both = changed call j answer code after told outcome put in
+      (both .0, (both .1, kept ∙ sym (ap (λ (x : Decoded). lentDecoded x lent left) (sym is ∙ told))))
