@@ -6,10 +6,16 @@ ghost use Rattle.journal_entry.specs.Places.{kindOf};
 ghost use Rattle.journal_ring.specs.Put.{putEntry};
 ghost use Rattle.marshalling.specs.Marshalled.{marshalled};
 ghost use Rattle.journal_image.specs.Strip.{stripCall, strippedOutput};
-ghost use Rattle.journal_c.specs.Numbers.{codeOf, outputAfter};
+ghost use Rattle.record_words.specs.Calls.{codeOf};
+ghost use Rattle.journal_c.specs.Numbers.{outputAfter};
 ghost use Rattle.journal_c.specs.Checksum.{checksumCall};
 ghost use Rattle.journal_c.specs.Totals.{totalsCall};
 ghost use Rattle.journal_c.specs.Writing.{putTaken, imageTaken};
+
+mod queries;
+mod record;
+mod recovery;
+
 use journal_entry::Kind;
 use journal_image::Stripped;
 use journal_range::RangeRead;

@@ -1,0 +1,55 @@
+-- `journal_c::journal_set_written` meets its contract: the journalist's, on the record that the words say.
+-- Assumes nothing.
+use Rattle.record_words.proofs.OnRecord.{damaged, changed}
+use borrow.Author.Needs.{needs}
+use Rattle.journal_c.proofs.record.journal_set_written.Statement.{statement}
+use Rattle.journal_c.proofs.record.journal_set_written.Tie as tie
+
+decode-requires : tie.Need-decode-requires
+decode-requires c κs = search needs
+
+enum-told : tie.Need-enum-told
+enum-told c = search needs
+
+number-requires : tie.Need-number-requires
+number-requires c κs = search needs
+
+enum-known-j : tie.Need-enum-known-j
+enum-known-j c = search needs
+
+set-written-journal-len-requires : tie.Need-set-written-journal-len-requires
+set-written-journal-len-requires c κs = search needs
+
+put-requires : tie.Need-put-requires
+put-requires c κs = search needs
+
+same-length : tie.Need-same-length
+same-length c = search needs
+
+returns : tie.Need-returns
+returns c =
+    let words = c .before .before .before .before .before .before .args .words .now in
+    damaged words _ (c .before .before .before .decode .ensures) _ _ (c .before .enum-told .given .1) (c .number .ensures)
+
+same-length-2 : tie.Need-same-length-2
+same-length-2 c = search needs
+
+returns-2 : tie.Need-returns-2
+returns-2 c =
+    let words = c .before .before .before .before .before .before .before .before .before .before .before .args .words .now in
+    changed words _ (c .before .before .before .before .before .before .before .before .decode .ensures) _ _ (c .before .before .before .set-written-journal-len .result) _ _ (c .before .before .before .before .before .before .j .given .1) (c .before .before .before .set-written-journal-len .ensures) (c .before .before .put .ensures)
+
+pub journal-set-written-spec : {M : Type 1} → statement M
+journal-set-written-spec =
+    tie.close
+    (tie.spec
+    decode-requires
+    enum-told
+    number-requires
+    enum-known-j
+    set-written-journal-len-requires
+    put-requires
+    same-length
+    returns
+    same-length-2
+    returns-2)
