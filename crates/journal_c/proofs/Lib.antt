@@ -1,3 +1,4 @@
 pub mod Heads
 pub mod Totals
 pub mod Takings
+pub mod Answering
