@@ -3,3 +3,4 @@ pub mod calls;
 pub mod guarded;
 pub mod model;
 pub mod random;
+pub mod record;
