@@ -1,22 +1,26 @@
--- What the tests of top and pop tell of a cursor and a buffer, and the row that each of them leads to. Assumes nothing.
+-- What the tests of top and pop tell of a cursor and a buffer, each number's condition, and the row that each of the code's tests leads to.
+-- Assumes nothing.
 use Prim.Native.Nat.{ℕ, _+_, _-_, _≤_, _<_}
-use mathlib.Core.Bool.{Bool, true, false, not, and-false}
-use mathlib.Core.List.{List, [], _++_, append-nil}
+use mathlib.Core.Bool.{Bool, true, false, not, cond, _&&_, and-false}
+use mathlib.Core.List.{List, [], _∷_, _++_, append-nil}
 use mathlib.Core.Path.{_≡_, refl, sym, ap, _∙_, subst}
 use native.Mathlib.Omega.{arith}
 use lib.Dec.{leb, eqb}
 use lib.ListN.{length}
-use borrow.Author.Tests.{le-leb, lt-leb, eq-eqb, ne-eqb, leb-true, eqb-false}
+use borrow.Author.Tests.{le-leb, lt-leb, ne-eqb, leb-true, eqb-false, not-true}
 use Rattle.refusals.specs.Outcome.{Outcome, gives, refuses, require_else_then_}
 use Rattle.refusals.specs.Refusals.{numberOf}
 use Rattle.refusals.specs.declared.Refusal.{Refusal}
-use Rattle.refusals.proofs.Tests.{both, same, impossible}
-use Rattle.journal_entry.specs.Places.{entryAt}
+use Rattle.refusals.proofs.Tests.{both, leb-same, impossible}
+use Rattle.refusals.proofs.Outcomes.{require-told}
+use Rattle.refusals.proofs.Rows.{Row, inRows, Exactly, exactly, stops, require-both}
+use Rattle.journal_entry.specs.Places.{placeAt, readable, entryAt}
 use Rattle.journal_entry.specs.declared.EntryPlace.{EntryPlace}
 use Rattle.journal_entry.specs.declared.EntryRead.{EntryRead}
 use Rattle.journal_entry.specs.declared.EntryRead.the-variants.{Read, Unreadable}
 use Rattle.journal_entry.proofs.Bridge.{bridge-read}
 use Rattle.replay_cursor.specs.declared.Replay.{Replay}
+use Rattle.replay_cursor.specs.declared.Top.{Top}
 use Rattle.replay_cursor.specs.declared.PlaceRead.{PlaceRead}
 use Rattle.replay_cursor.specs.declared.PlaceRead.the-variants as place
 use Rattle.replay_cursor.specs.Answers.{placeOutcome}
@@ -49,10 +53,55 @@ module _ (c : Replay) (s : List ℕ) where
   lies-short h = simp (lt-leb (c .place + c .bytes) (length s) (omega arith), and-false)
 
   pub lies-room : countsHang (c .entries) (c .bytes) ≡ true → c .place ≤ length s → leb (c .bytes) (length s - c .place) ≡ liesIn c s
-  lies-room e h =
-      same (leb (c .bytes) (length s - c .place)) (liesIn c s)
-      (λ t. let k = leb-true (c .bytes) (length s - c .place) t in lies-true (record { counted = e; inside = omega arith }))
-      (λ t. let k = lies-facts t .inside in le-leb (c .bytes) (length s - c .place) (omega arith))
+  unfolding liesIn
+  lies-room e h = rw e (leb-same (c .bytes) (length s - c .place) (c .place + c .bytes) (length s) (λ k. omega arith) (λ k. omega arith))
+
+-- The rows that top and pop both have, with what follows of the entry's place.
+
+abbrev pub topRows : Replay → (replay : List ℕ) → List Row
+topRows c s = (liesIn c s, 2) ∷ (not (eqb (c .entries) 0), 8) ∷ (readable s (c .place) (c .place + c .bytes), 14) ∷ []
+
+read-row : {A : Type 0} (t : Bool) (p : EntryPlace) (rest : EntryPlace → Outcome A)
+    → readAs (cond t (Read p) Unreadable) rest ≡ (require t else 14 then rest p)
+read-row true p rest = refl
+read-row false p rest = refl
+
+-- the counts behind the entry
+abbrev pub restHangs : Replay → (next : ℕ) → Bool
+restHangs c next = countsHang (restBehind c next .entries) (restBehind c next .bytes)
+
+abbrev pub behind : Replay → EntryPlace → Outcome Replay
+behind c p = require restHangs c (p .next) else 14 then gives (restBehind c (p .next))
+
+-- top's places
+abbrev pub topHere : Replay → (replay : List ℕ) → Top
+topHere c s = topOf (placeAt s (c .place))
+
+module _ (c : Replay) (s : List ℕ) where
+  then-rows : {A : Type 0} (rest : EntryPlace → Outcome A) → topThen c s rest ≡ inRows (topRows c s) (rest (placeAt s (c .place)))
+  unfolding topThen topEntry entryAt
+  then-rows rest = rw (read-row (readable s (c .place) (c .place + c .bytes)) (placeAt s (c .place)) rest)
+
+  pub place-exactly : Exactly (topRows c s) (placeAt s (c .place)) (topThen c s gives)
+  place-exactly = exactly _ _ _ refl (then-rows gives)
+
+  -- TOP'S NUMBERS
+  pub top-exactly : Exactly (topRows c s) (topHere c s) (topCall c s)
+  unfolding topCall
+  top-exactly = exactly _ _ _ refl (then-rows (λ p. gives (topOf p)))
+
+  -- POP'S NUMBERS: 14 also where the counts behind the entry would not hang together
+  pub pop-exactly : let next = placeAt s (c .place) .next in
+      Exactly
+      ((liesIn c s, 2) ∷ (not (eqb (c .entries) 0), 8) ∷ (readable s (c .place) (c .place + c .bytes) && restHangs c next, 14) ∷ [])
+      (restBehind c next)
+      (popCall c s)
+  unfolding popCall
+  pop-exactly = exactly _ _ _ refl (then-rows (behind c) ∙ rw (require-both (readable s (c .place) (c .place + c .bytes)) (restHangs c (placeAt s (c .place) .next)) 14 _))
+
+  -- a refusal of those rows is a refusal of the whole
+  pub then-refused : {A : Type 0} (rest : EntryPlace → Outcome A) (n : ℕ) → refuses n ≡ topThen c s gives → refuses n ≡ topThen c s rest
+  then-refused rest n h = sym (then-rows rest ∙ stops (topRows c s) _ n (place-exactly .refused-told n (sym h)))
 
 -- the entry at p passed the tests that top and pop both have
 pub record Found (c : Replay) (s : List ℕ) (p : EntryPlace) : Type 0 where
@@ -61,18 +110,6 @@ pub record Found (c : Replay) (s : List ℕ) (p : EntryPlace) : Type 0 where
   pub reads : topEntry c s ≡ Read p
 
 module _ (c : Replay) (s : List ℕ) {A : Type 0} (rest : EntryPlace → Outcome A) where
-  pub row-2 : liesIn c s ≡ false → topThen c s rest ≡ refuses 2
-  unfolding topThen
-  row-2 e = simp e
-
-  pub row-8 : liesIn c s ≡ true → c .entries ≡ 0 → topThen c s rest ≡ refuses 8
-  unfolding topThen
-  row-8 e z = simp (e, eq-eqb (c .entries) 0 z)
-
-  pub row-14 : liesIn c s ≡ true → (c .entries ≡ 0 → ⊥) → topEntry c s ≡ Unreadable → topThen c s rest ≡ refuses 14
-  unfolding topThen
-  row-14 e n r = simp (e, ne-eqb (c .entries) 0 n, r)
-
   pub row-found : (p : EntryPlace) → Found c s p → topThen c s rest ≡ rest p
   unfolding topThen
   row-found p f = simp (f .lies, ne-eqb (c .entries) 0 (f .some-left), f .reads)
@@ -80,39 +117,14 @@ module _ (c : Replay) (s : List ℕ) {A : Type 0} (rest : EntryPlace → Outcome
   -- where something is given, an entry was found
   pub then-gave : {C : Type 0} (a : A) → topThen c s rest ≡ gives a → ((p : EntryPlace) → Found c s p → rest p ≡ gives a → C) → C
   unfolding topThen
-  then-gave {C} a h k = go (liesIn c s) (eqb (c .entries) 0) (topEntry c s) refl refl refl h
+  then-gave {C} a h k =
+      require-told (liesIn c s) 2 _ a h λ lies h₁.
+      require-told (not (eqb (c .entries) 0)) 8 _ a h₁ λ more h₂.
+      go lies (eqb-false (c .entries) 0 (not-true (eqb (c .entries) 0) more)) (topEntry c s) refl h₂
     where
-      go : (t z : Bool) (r : EntryRead) → liesIn c s ≡ t → eqb (c .entries) 0 ≡ z → topEntry c s ≡ r
-          → (require t else 2 then require not z else 8 then readAs r rest) ≡ gives a → C
-      go true false (Read p) e n r x = k p (record { lies = e; some-left = eqb-false (c .entries) 0 n; reads = r }) x
-      go true false Unreadable e n r x = impossible cc
-      go true true r e n q x = impossible cc
-      go false z r e n q x = impossible cc
-
-  -- where 14 is answered, an entry did not read, or what follows answers it
-  pub then-14 : {C : Type 0} → topThen c s rest ≡ refuses 14 → (liesIn c s ≡ true → topEntry c s ≡ Unreadable → C)
-      → ((p : EntryPlace) → Found c s p → rest p ≡ refuses 14 → C) → C
-  unfolding topThen
-  then-14 {C} h unread k = go (liesIn c s) (eqb (c .entries) 0) (topEntry c s) refl refl refl h
-    where
-      go : (t z : Bool) (r : EntryRead) → liesIn c s ≡ t → eqb (c .entries) 0 ≡ z → topEntry c s ≡ r
-          → (require t else 2 then require not z else 8 then readAs r rest) ≡ refuses 14 → C
-      go true false (Read p) e n r x = k p (record { lies = e; some-left = eqb-false (c .entries) 0 n; reads = r }) x
-      go true false Unreadable e n r x = unread e r
-      go true true r e n q x = let z : _≡_ {A = ℕ} 8 14 = cc in absurd (omega arith)
-      go false z r e n q x = let y : _≡_ {A = ℕ} 2 14 = cc in absurd (omega arith)
-
-  -- a refusal of those tests is a refusal of the whole
-  pub then-refused : (n : ℕ) → refuses n ≡ topThen c s gives → refuses n ≡ topThen c s rest
-  unfolding topThen
-  then-refused n h = go (liesIn c s) (eqb (c .entries) 0) (topEntry c s) h
-    where
-      go : (t z : Bool) (r : EntryRead) → refuses n ≡ (require t else 2 then require not z else 8 then readAs r gives)
-          → refuses n ≡ (require t else 2 then require not z else 8 then readAs r rest)
-      go true false (Read p) x = impossible cc
-      go true false Unreadable x = let e : n ≡ 14 = cc in ap refuses e
-      go true true r x = let e : n ≡ 8 = cc in ap refuses e
-      go false z r x = let e : n ≡ 2 = cc in ap refuses e
+      go : liesIn c s ≡ true → (c .entries ≡ 0 → ⊥) → (r : EntryRead) → topEntry c s ≡ r → readAs r rest ≡ gives a → C
+      go e n (Read p) r x = k p (record { lies = e; some-left = n; reads = r }) x
+      go e n Unreadable r x = impossible cc
 
 -- `top_entry`, which reads the joined slices of the buffer and of nothing
 module _ (c : Replay) (s : List ℕ) (e : liesIn c s ≡ true) (n : c .entries ≡ 0 → ⊥) where
@@ -121,7 +133,8 @@ module _ (c : Replay) (s : List ℕ) (e : liesIn c s ≡ true) (n : c .entries �
   alone r h = sym (h ∙ ap (λ (l : List ℕ). entryAt l (c .place) (c .place + c .bytes)) (append-nil s))
 
   pub place-unread : (r : EntryRead) → r ≡ entryAt (s ++ []) (c .place) (c .place + c .bytes) → r ≡ Unreadable → refuses 14 ≡ topThen c s gives
-  place-unread r h u = sym (row-14 c s gives e n (alone r h ∙ u))
+  unfolding topThen
+  place-unread r h u = simp (e, ne-eqb (c .entries) 0 n, alone r h ∙ u)
 
   pub place-read : (r : EntryRead) (p : EntryPlace) → r ≡ entryAt (s ++ []) (c .place) (c .place + c .bytes) → r ≡ Read p → gives p ≡ topThen c s gives
   place-read r p h q = sym (row-found c s gives p (record { lies = e; some-left = n; reads = alone r h ∙ q }))
@@ -153,13 +166,6 @@ found-numbers c s p f =
       next-before = b .next-before;
       next-behind = b .next-behind;
     }
-
--- the counts behind the entry
-abbrev pub restHangs : Replay → (next : ℕ) → Bool
-restHangs c next = countsHang (restBehind c next .entries) (restBehind c next .bytes)
-
-abbrev pub behind : Replay → EntryPlace → Outcome Replay
-behind c p = require restHangs c (p .next) else 14 then gives (restBehind c (p .next))
 
 module _ (c : Replay) (s : List ℕ) where
   pub top-found : (p : EntryPlace) → Found c s p → gives (topOf p) ≡ topCall c s
