@@ -16,10 +16,11 @@ use Rattle.journal_entry.specs.Places.{placeAt, part}
 use Rattle.journal_entry.proofs.Parts.{length-part}
 use Rattle.journal_entry.proofs.Reading.{parseEntry-wire, length-wires, eight-each}
 use Rattle.replay_cursor.specs.declared.Replay.{Replay}
-use Rattle.replay_cursor.specs.Cursor.{liesIn, topEntry, entryAtTop, restBehind}
+use Rattle.replay_cursor.specs.declared.Top.{Top}
+use Rattle.replay_cursor.specs.Cursor.{liesIn, topEntry, topOf, entryAtTop, restBehind}
 use Rattle.replay_cursor.specs.Calls.{topCall, popCall}
 use Rattle.replay_cursor.proofs.Counts.{counts-true}
-use Rattle.replay_cursor.proofs.Rows.{lies-facts, lies-true, topHere, top-exactly, pop-exactly, Found, top-found, pop-found, restHangs}
+use Rattle.replay_cursor.proofs.Rows.{lies-facts, lies-true, top-exactly, pop-exactly, Found, top-found, pop-found, restHangs}
 use Rattle.replay_cursor.proofs.Entries.{left, Front, front-read}
 
 -- the bytes left are the entries' wire forms
@@ -29,7 +30,10 @@ pub record Holds (c : Replay) (s : List ℕ) (es : List JournalEntry) : Type 0 w
   pub within : AllWithin es
   pub inside : c .place + c .bytes ≤ length s
 
--- the cursor behind an entry
+-- top's places, and the cursor behind an entry
+abbrev pub topHere : Replay → (replay : List ℕ) → Top
+topHere c replay = topOf (placeAt replay (c .place))
+
 abbrev pub behindEntry : Replay → JournalEntry → Replay
 behindEntry c e = restBehind c (c .place + WeightJournalEntry e)
 
