@@ -1,6 +1,6 @@
 pub mod Facts
 pub mod Kept
-pub mod WrittenLaws
+pub mod CallLaws
 pub mod Appending
 pub mod AppendLaws
 pub mod Packaging

@@ -28,8 +28,8 @@ use Rattle.journalist.specs.Changes.{packagedFrozenRecord, packagedInMem
 use Rattle.journalist.specs.Append.{ringHangs, pendingBytes}
 use Rattle.journalist.specs.Package.{reads, frozenRead, memoryRead, ringReads, packageFrozenJournalCall, frozenImage}
 use Rattle.journalist.specs.Package.{memoryBlocks, packageInMemoryJournalCall, memoryImage}
-use Rattle.journalist.proofs.Facts.{facts, together}
-use Rattle.journalist.proofs.PackageRows.{ring-told, ring-counts, memory-few, memory-room}
+use Rattle.journalist.proofs.Facts.{facts, together, ring-told, ring-counts}
+use Rattle.journalist.proofs.PackageRows.{memory-few, memory-room}
 
 -- Which row of a call an outcome is.
 

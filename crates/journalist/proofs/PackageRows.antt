@@ -4,8 +4,7 @@ use mathlib.Core.Bool.{true, false}
 use mathlib.Core.List.{List, _++_}
 use Prim.Native.Nat.{ℕ, _+_, _*_, _≤_, _<_, min}
 use native.Mathlib.Omega.{arith}
-use borrow.Author.Tests.{le-leb, lt-leb, eq-eqb, ne-eqb, eqb-true}
-use lib.Dec.{eqb}
+use borrow.Author.Tests.{le-leb, lt-leb, eq-eqb, ne-eqb}
 use lib.ListN.{length, drop}
 use Rattle.words.proofs.Slices.{Bytes}
 use Rattle.refusals.specs.Outcome.{Outcome, gives, refuses, bytesAfter}
@@ -14,22 +13,13 @@ use Rattle.journal_ring.specs.Ring.{cyclicSlice, advance}
 use Rattle.marshalling.specs.Marshall.{imageOf}
 use Rattle.journalist.specs.declared.Pending.{Pending}
 use Rattle.journalist.specs.declared.Journalist.{Journalist}
-use Rattle.journalist.specs.Record.{listWeight, blocksFor, hangsTogether}
+use Rattle.journalist.specs.Record.{listWeight, blocksFor}
 use Rattle.journalist.specs.Changes.{empty, withLists, withBlocks, withStart, packagedFrozenRecord, packagedInMemoryRecord}
 use Rattle.journalist.specs.Append.{ringHangs, pendingBytes}
 use Rattle.journalist.specs.Package.{reads, frozenRead, memoryRead, ringReads, packageFrozenJournalCall, frozenImage, frozenPackaged}
 use Rattle.journalist.specs.Package.{memoryBlocks, packageInMemoryJournalCall, memoryImage, memoryPackaged}
-use Rattle.journalist.proofs.Facts.{CountsOf, facts, weight-is, weight-exact}
+use Rattle.journalist.proofs.Facts.{CountsOf, weight-is, weight-exact, ring-told, ring-counts}
 use Rattle.journalist.proofs.Packaging.{image-from}
-
--- The record and a lent ring that hangs with it.
-
-pub ring-told : (j : Journalist) (ring : List ℕ) → ringHangs j ring ≡ true → (hangsTogether j ≡ true) × (length ring ≡ j .ring)
-ring-told j ring h =
-    let p = both (hangsTogether j) (eqb (length ring) (j .ring)) h in (p .0, eqb-true (length ring) (j .ring) (p .1))
-
-pub ring-counts : (j : Journalist) (ring : List ℕ) → ringHangs j ring ≡ true → CountsOf j
-ring-counts j ring h = facts j (ring-told j ring h .0) .counts
 
 -- The blocks of the in-memory list: none is past the region's end.
 

@@ -11,8 +11,8 @@ use Rattle.refusals.proofs.Tests.{passed, failed}
 use Rattle.journalist.specs.declared.Journalist.{Journalist}
 use Rattle.journalist.specs.Append.{ringHangs}
 use Rattle.journalist.specs.Package.{ringReads}
-use Rattle.journalist.proofs.Facts.{CountsOf}
-use Rattle.journalist.proofs.PackageRows.{ring-told, ring-counts, frozen-fits, frozen-2, frozen-8, frozen-15, frozen-9, frozen-done}
+use Rattle.journalist.proofs.Facts.{CountsOf, ring-told, ring-counts}
+use Rattle.journalist.proofs.PackageRows.{frozen-fits, frozen-2, frozen-8, frozen-15, frozen-9, frozen-done}
 use Rattle.journalist.proofs.Journalist.package_frozen_journal.Statement.{statement}
 use Rattle.journalist.proofs.Journalist.package_frozen_journal.Tie as tie
 

@@ -11,7 +11,8 @@ use Rattle.refusals.proofs.Tests.{passed, failed}
 use Rattle.journalist.specs.declared.Journalist.{Journalist}
 use Rattle.journalist.specs.Append.{ringHangs}
 use Rattle.journalist.specs.Package.{ringReads, memoryBlocks}
-use Rattle.journalist.proofs.PackageRows.{ring-told, ring-counts, memory-blocks, memory-few, memory-fits}
+use Rattle.journalist.proofs.Facts.{ring-told, ring-counts}
+use Rattle.journalist.proofs.PackageRows.{memory-blocks, memory-few, memory-fits}
 use Rattle.journalist.proofs.PackageRows.{memory-2, memory-7, memory-8, memory-15, memory-9, memory-done}
 use Rattle.journalist.proofs.Journalist.package_in_memory_journal.Statement.{statement}
 use Rattle.journalist.proofs.Journalist.package_in_memory_journal.Tie as tie
