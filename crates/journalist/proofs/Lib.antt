@@ -4,7 +4,6 @@ pub mod CallLaws
 pub mod Appending
 pub mod AppendLaws
 pub mod Packaging
-pub mod PackageRows
 pub mod PackageLaws
 pub mod Recovering
 pub mod RecoveryLaws
