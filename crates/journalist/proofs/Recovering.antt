@@ -1,19 +1,21 @@
 -- What set front, set back and load answer, from what their callees ensure. Assumes nothing.
 use mathlib.Core.Path.{_≡_, refl, sym, ap, ap₂, _∙_}
-use mathlib.Core.Bool.{Bool, true, false, _&&_}
+use mathlib.Core.Bool.{Bool, true, false}
 use mathlib.Core.Option.{Option, none, some}
 use mathlib.Core.List.{List, _++_, append-nil}
 use Prim.Native.Nat.{ℕ, _+_, _*_, _/_, _%_, _≤_, _<_}
 use native.Mathlib.Omega.{arith}
-use borrow.Author.Tests.{le-leb, lt-leb, leb-true, eq-eqb, ne-eqb}
+use borrow.Author.Tests.{le-leb, lt-leb, eq-eqb}
 use lib.Dec.{leb}
 use lib.ListN.{length, take, drop, length-append, take-append-drop}
 use lib.Seq.{length-take-le, take-length}
 use Rattle.words.specs.Lists.{chunks}
-use Rattle.refusals.specs.Outcome.{Outcome, gives, require_else_then_, given_else_then_, into, bytesAfter}
+use Rattle.refusals.specs.Outcome.{Outcome, gives, refuses, require_else_then_, given_else_then_, into, bytesAfter}
 use Rattle.refusals.specs.declared.Refusal.{Refusal}
-use Rattle.refusals.specs.declared.Refusal.the-variants.{CountsDisagree, OutputTooShort, PayloadNotWhole, Unreadable}
-use Rattle.refusals.proofs.Tests.{both, same}
+use Rattle.refusals.specs.declared.Refusal.the-variants.{CountsDisagree, OutputTooShort, Unreadable}
+use Rattle.refusals.proofs.Outcomes.{answered-refused, answered-given}
+use Rattle.refusals.proofs.Rows.{Stops}
+use Rattle.refusals.proofs.Tests.{leb-same}
 use Rattle.journal_entry.specs.Entry.{JournalEntry, SumJournalEntries}
 use Rattle.journal_range.specs.Range.{parseJournalRange}
 use Rattle.journal_range.specs.Payload.{parsePayload, rangeOf}
@@ -30,38 +32,24 @@ use Rattle.journalist.specs.declared.Side.the-variants.{Absent}
 use Rattle.journalist.specs.Record.{hangsTogether}
 use Rattle.journalist.specs.Answers.{recordOutcome, lengthOutcome}
 use Rattle.journalist.specs.Changes.{withReplay, withSides, loadedRecord}
-use Rattle.journalist.specs.Recovery.{wholeBlocks, setSideCall, sideSet, sideBlocks, sidesRange, sidesHang, parseJournalsCall, replayLoaded}
+use Rattle.journalist.specs.Recovery.{setSideCall, sideSet, sideBlocks, sidesRange, sidesHang, parseJournalsCall, replayLoaded}
+use Rattle.journalist.proofs.RecoveryLaws.{sideRows, side-exactly, SideTaken, side-gives, sides-facts}
 
--- Set front and set back: what is asked of the answer r and of the buffer after it.
-abbrev pub SideAnswered : Journalist → (payload buffer : List ℕ) → Length → (after : List ℕ) → Type 0
-SideAnswered j p d r d′ = (lengthOutcome r ≡ setSideCall j p d) × (d′ ≡ sideSet j p d)
+-- Set front and set back: a row that refuses, or the answer and the buffer behind all of them.
 
 module _ (j : Journalist) (p d : List ℕ) where
-  pub side-uncounted : hangsTogether j ≡ false → SideAnswered j p d (long.Refused CountsDisagree) d
-  unfolding setSideCall sideSet
-  side-uncounted h = rw h (refl, refl)
+  abbrev SideAnswered : Outcome ℕ → (after : List ℕ) → Type 0
+  SideAnswered o after = (o ≡ setSideCall j p d) × (after ≡ sideSet j p d)
 
-  module _ (h : hangsTogether j ≡ true) where
-    pub side-ragged : (length p % 4064 ≡ 0 → ⊥) → SideAnswered j p d (long.Refused PayloadNotWhole) d
-    unfolding setSideCall sideSet wholeBlocks
-    side-ragged k = rw (h, ne-eqb _ _ k) (refl, refl)
+  pub side-refused : (n : ℕ) → Stops (sideRows j p d) n → SideAnswered (refuses n) d
+  unfolding sideSet
+  side-refused n h = answered-refused (setSideCall j p d) _ d n (side-exactly j p d .refused n h)
 
-    module _ (whole : length p % 4064 ≡ 0) where
-      pub side-long : j .blocks < length p / 4064 → SideAnswered j p d (long.Refused PayloadNotWhole) d
-      unfolding setSideCall sideSet wholeBlocks
-      side-long k = rw (h, eq-eqb _ _ whole, lt-leb _ _ k) (refl, refl)
-
-      module _ (in-region : length p / 4064 ≤ j .blocks) where
-        pub side-short : length d < length p → SideAnswered j p d (long.Refused OutputTooShort) d
-        unfolding setSideCall sideSet wholeBlocks
-        side-short k = rw (h, eq-eqb _ _ whole, le-leb _ _ in-region, lt-leb _ _ k) (refl, refl)
-
-        pub side-copied : length p ≤ length d → (d′ : List ℕ) → d′ ≡ take (length p) p ++ drop (length p) d
-            → SideAnswered j p d (long.Blocks (length p / 4064)) d′
-        unfolding setSideCall sideSet wholeBlocks
-        side-copied k d′ e =
-            rw (h, eq-eqb _ _ whole, le-leb _ _ in-region, le-leb _ _ k)
-            (refl, e ∙ ap (λ (l : List ℕ). l ++ drop (length p) d) (take-length p))
+  pub side-copied : SideTaken j p d → (after : List ℕ) → after ≡ take (length p) p ++ drop (length p) d → SideAnswered (gives (length p / 4064)) after
+  unfolding sideSet
+  side-copied t after e =
+      answered-given (setSideCall j p d) _ d (length p / 4064) after (side-gives j p d t)
+      (e ∙ ap (λ (l : List ℕ). l ++ drop (length p) d) (take-length p))
 
 -- the record that is made of the blocks, or the same refusal
 pub set-made : (f : ℕ → Journalist) (o : Outcome ℕ) (r : Length) (k : ℕ) → lengthOutcome r ≡ o → r ≡ long.Blocks k
@@ -76,24 +64,7 @@ set-refused f o r why e q = ap (into f) (ap lengthOutcome (sym q) ∙ e)
 
 -- a side's blocks lie in its buffer: compared in blocks, or in bytes
 side-fits : (k n : ℕ) → leb k (n / 4064) ≡ leb (4064 * k) n
-side-fits k n =
-    same (leb k (n / 4064)) (leb (4064 * k) n)
-    (λ h. let l = leb-true k (n / 4064) h in le-leb (4064 * k) n (omega arith))
-    (λ h. let l = leb-true (4064 * k) n h in le-leb k (n / 4064) (omega arith))
-
--- sides that hang, as facts
-pub record SidesHang (j : Journalist) (front back : List ℕ) : Type 0 where
-  pub hangs : hangsTogether j ≡ true
-  pub front-in : 4064 * sideBlocks (j .front) ≤ length front
-  pub back-in : 4064 * sideBlocks (j .back) ≤ length back
-
-pub sides-facts : (j : Journalist) (front back : List ℕ) → sidesHang j front back ≡ true → SidesHang j front back
-sides-facts j front back h =
-    let f = leb (4064 * sideBlocks (j .front)) (length front) in
-    let b = leb (4064 * sideBlocks (j .back)) (length back) in
-    let p = both (hangsTogether j && f) b h in
-    let q = both (hangsTogether j) f (p .0) in
-    record { hangs = q .0; front-in = leb-true _ _ (q .1); back-in = leb-true _ _ (p .1) }
+side-fits k n = leb-same k (n / 4064) (4064 * k) n (λ h. omega arith) (λ h. omega arith)
 
 module _ (j : Journalist) (front back : List ℕ) where
   pub sides-uncounted : hangsTogether j ≡ false → false ≡ sidesHang j front back
