@@ -2,5 +2,7 @@
 //! the Rattle crates.
 pub mod block;
 pub mod crc;
+pub mod entries;
+pub mod journalist;
 pub mod reading;
 pub mod writing;
