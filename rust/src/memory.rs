@@ -33,6 +33,13 @@ pub struct Slices<'a> {
     pub answer: &'a mut [u64],
 }
 
+impl Slices<'_> {
+    pub fn reborrow(&mut self) -> Slices<'_> {
+        let Slices { read: [a, b], written, words, answer } = self;
+        Slices { read: [a, b], written, words, answer }
+    }
+}
+
 impl Lent {
     pub fn slices(&mut self) -> Slices<'_> {
         let Lent { read, written, words, answer } = self;
