@@ -213,10 +213,10 @@ fn damage(state: &mut State, call: Call, random: &mut Random) {
 
 /// A buffer that is lent, in some other length. There are five.
 fn lengthen(lent: &mut Lent, buffer: usize, change: usize) {
-    fn other<T: Default>(s: &mut Vec<T>, change: usize) {
+    fn other<T: From<u8>>(s: &mut Vec<T>, change: usize) {
         match change {
             0 => drop(s.pop()),
-            1 => s.push(T::default()),
+            1 => s.push(T::from(0xA5)),
             _ => s.clear(),
         }
     }

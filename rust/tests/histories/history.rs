@@ -23,6 +23,8 @@ pub struct History {
     pub seen: Seen,
     journal: Journal,
     ring: Vec<u8>,
+    /// Where the pending forms start in the ring.
+    start: u64,
     /// What the ring has to be: only accepted appends change it.
     shadow: Vec<u8>,
     /// The wire forms of frozen, then of memory.
@@ -51,6 +53,7 @@ impl History {
             lists: Lists::default(),
             seen: Seen::new(),
             journal: Journal::open(n, r).unwrap(),
+            start: 0,
             shadow: ring.clone(),
             ring,
             pending: vec![],
@@ -104,7 +107,6 @@ impl History {
         ]);
         let mut longer = if ring_as_long { vec![] } else { vec![0xA5; self.r as usize + 1] };
         let ring = if ring_as_long { &mut self.ring } else { &mut longer };
-        let start = self.journal.words()[3] as usize;
         let answer = if *is_clone {
             self.journal.append_clone(ring, first, second)
         } else {
@@ -112,7 +114,7 @@ impl History {
         };
         assert!(longer.iter().all(|byte| *byte == 0xA5), "a refused append");
         if wanted == 0 {
-            let place = start + (self.r - room) as usize;
+            let place = (self.start + self.r - room) as usize;
             let form = entry.wire_form();
             for (i, byte) in form.iter().enumerate() {
                 self.shadow[(place + i) % self.r as usize] = *byte;
@@ -140,7 +142,7 @@ impl History {
         let damaged = ring == 2 && entries > 0;
         if damaged {
             let before = first.iter().chain(second).take(random.below(entries));
-            let place = before.map(Entry::weight).sum::<usize>() + self.journal.words()[3] as usize;
+            let place = before.map(Entry::weight).sum::<usize>() + self.start as usize;
             lent[(place + 1) % self.r as usize] = 0xFF;
         } else if ring == 1 {
             lent.push(0);
@@ -169,7 +171,9 @@ impl History {
             assert_eq!(written, blocks, "{name}");
             out.truncate(BLOCK * blocks);
             self.images.push(out);
-            self.pending.drain(..bytes(if frozen { first } else { second }) as usize);
+            let packaged = bytes(if frozen { first } else { second });
+            self.pending.drain(..packaged as usize);
+            self.start = if frozen { (self.start + packaged) % self.r } else { 0 };
         }
         self.answered(name, &answer, wanted, fed);
         self.check();
@@ -282,7 +286,6 @@ impl History {
     /// The record's words are those of the plain lists, and the queries answer as they do.
     fn check(&mut self) {
         let Lists { frozen, memory, held, written, .. } = &self.lists;
-        let start = self.journal.words()[3];
         let left: usize = self.left.iter().map(Entry::weight).sum();
         let [front, back] = [&self.front, &self.back].map(|side| {
             let blocks = side.as_deref().unwrap_or_default().len() / PAYLOAD;
@@ -291,7 +294,7 @@ impl History {
         let counts = [frozen, memory].map(|list| [list.len() as u64, bytes(list)]);
         let replay = [self.place, left, self.left.len()].map(|n| n as u64);
         let wanted = [
-            &[1, self.n, self.r, start],
+            &[1, self.n, self.r, self.start],
             counts.as_flattened(),
             &[*written, *held],
             &replay,
@@ -299,7 +302,7 @@ impl History {
             &back,
         ];
         assert_eq!(self.journal.words()[..], wanted.concat());
-        assert!(start < self.r.max(1) && *written <= self.n);
+        assert!(*written <= self.n);
         assert_eq!(self.journal.has_frozen(), Ok(!frozen.is_empty()));
         assert_eq!(self.journal.has_in_memory(), Ok(!memory.is_empty()));
         assert_eq!(self.journal.get_written(), Ok(*written));
@@ -315,7 +318,7 @@ impl History {
     /// The ring holds, from start on, the pending forms.
     fn check_ring(&self) {
         assert!(self.ring == self.shadow, "the ring");
-        let (wrapped, from_start) = self.ring.split_at(self.journal.words()[3] as usize);
+        let (wrapped, from_start) = self.ring.split_at(self.start as usize);
         let (first, second) = self.pending.split_at(self.pending.len().min(from_start.len()));
         assert!(from_start.starts_with(first) && wrapped.starts_with(second), "the pending forms");
     }
