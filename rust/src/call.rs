@@ -1,5 +1,5 @@
 //! A call on the record, or strip, as a value: it is made of the library or of the model.
-use crate::calls;
+use crate::{calls, record};
 use crate::memory::Slices;
 use crate::model::{block, journalist};
 
@@ -74,7 +74,7 @@ macro_rules! made {
 
 impl Call {
     pub fn of_library(self, lent: Slices) -> u64 {
-        made!(self, lent, calls, calls::strip)
+        made!(self, lent, record, calls::strip)
     }
 
     pub fn of_model(self, lent: Slices) -> u64 {

@@ -1,6 +1,6 @@
 //! A journal for Rust: a record, and the calls on it. Ring, front, back and replay are lent to each
 //! call that needs them.
-use crate::calls;
+use crate::{calls, record};
 
 /// Why a call was refused: a number of the document's table, and of 12 the lowest block that differs.
 /// Nothing was changed.
@@ -55,7 +55,7 @@ impl Journal {
     /// An empty one, for a region of `n` blocks and a ring of `r` bytes.
     pub fn open(n: u64, r: u64) -> Result<Self, Refusal> {
         let mut words = [0; 17];
-        answered(calls::open(&mut words, n, r))?;
+        answered(record::open(&mut words, n, r))?;
         Ok(Journal { words })
     }
 
@@ -72,54 +72,54 @@ impl Journal {
         key: &[u8],
         value: &[u8],
     ) -> Result<(), Refusal> {
-        answered(calls::append_insert(&mut self.words, ring, key, value))
+        answered(record::append_insert(&mut self.words, ring, key, value))
     }
 
     pub fn append_clone(&mut self, ring: &mut [u8], from: &[u8], to: &[u8]) -> Result<(), Refusal> {
-        answered(calls::append_clone(&mut self.words, ring, from, to))
+        answered(record::append_clone(&mut self.words, ring, from, to))
     }
 
     pub fn freeze(&mut self) -> Result<(), Refusal> {
-        answered(calls::freeze(&mut self.words))
+        answered(record::freeze(&mut self.words))
     }
 
     /// The blocks that were written to the start of `out`.
     pub fn package_frozen(&mut self, ring: &[u8], out: &mut [u8]) -> Result<u64, Refusal> {
         let before = self.words[8];
-        answered(calls::package_frozen(&mut self.words, ring, out))?;
+        answered(record::package_frozen(&mut self.words, ring, out))?;
         Ok(self.words[8] - before)
     }
 
     /// The blocks that were written to the start of `out`.
     pub fn package_in_memory(&mut self, ring: &[u8], out: &mut [u8]) -> Result<u64, Refusal> {
         let before = self.words[8];
-        answered(calls::package_in_memory(&mut self.words, ring, out))?;
+        answered(record::package_in_memory(&mut self.words, ring, out))?;
         Ok(self.words[8] - before)
     }
 
     pub fn set_written(&mut self, len: u64) -> Result<(), Refusal> {
-        answered(calls::set_written(&mut self.words, len))
+        answered(record::set_written(&mut self.words, len))
     }
 
     pub fn update_written(&mut self, len: u64) -> Result<(), Refusal> {
-        answered(calls::update_written(&mut self.words, len))
+        answered(record::update_written(&mut self.words, len))
     }
 
     pub fn set_front(&mut self, payload: &[u8], front: &mut [u8]) -> Result<(), Refusal> {
-        answered(calls::set_front(&mut self.words, payload, front))
+        answered(record::set_front(&mut self.words, payload, front))
     }
 
     pub fn set_back(&mut self, payload: &[u8], back: &mut [u8]) -> Result<(), Refusal> {
-        answered(calls::set_back(&mut self.words, payload, back))
+        answered(record::set_back(&mut self.words, payload, back))
     }
 
     pub fn load(&mut self, front: &[u8], back: &[u8], replay: &mut [u8]) -> Result<(), Refusal> {
-        answered(calls::load(&mut self.words, front, back, replay))
+        answered(record::load(&mut self.words, front, back, replay))
     }
 
     pub fn top(&self, replay: &[u8]) -> Result<Top, Refusal> {
         let mut top = [0; 5];
-        answered(calls::top(&self.words, replay, &mut top))?;
+        answered(record::top(&self.words, replay, &mut top))?;
         let [kind, lens_and_places @ ..] = top;
         let [len, place, second_len, second_place] = lens_and_places.map(|n| n as usize);
         let second = Piece { place: second_place, len: second_len };
@@ -127,7 +127,7 @@ impl Journal {
     }
 
     pub fn pop(&mut self, replay: &[u8]) -> Result<(), Refusal> {
-        answered(calls::pop(&mut self.words, replay))
+        answered(record::pop(&mut self.words, replay))
     }
 
     fn query(&self, query: Query) -> Result<u64, Refusal> {
@@ -137,26 +137,26 @@ impl Journal {
     }
 
     pub fn has_frozen(&self) -> Result<bool, Refusal> {
-        Ok(self.query(calls::has_frozen)? == 1)
+        Ok(self.query(record::has_frozen)? == 1)
     }
 
     pub fn has_in_memory(&self) -> Result<bool, Refusal> {
-        Ok(self.query(calls::has_in_memory)? == 1)
+        Ok(self.query(record::has_in_memory)? == 1)
     }
 
     pub fn get_written(&self) -> Result<u64, Refusal> {
-        self.query(calls::get_written)
+        self.query(record::get_written)
     }
 
     pub fn is_replay_empty(&self) -> Result<bool, Refusal> {
-        Ok(self.query(calls::is_replay_empty)? == 1)
+        Ok(self.query(record::is_replay_empty)? == 1)
     }
 
     pub fn has_front(&self) -> Result<bool, Refusal> {
-        Ok(self.query(calls::has_front)? == 1)
+        Ok(self.query(record::has_front)? == 1)
     }
 
     pub fn has_back(&self) -> Result<bool, Refusal> {
-        Ok(self.query(calls::has_back)? == 1)
+        Ok(self.query(record::has_back)? == 1)
     }
 }

@@ -1,3 +1,5 @@
 pub mod Heads
 pub mod Totals
 pub mod Takings
+pub mod Found
+pub mod Answering

@@ -4,5 +4,6 @@ pub mod block;
 pub mod crc;
 pub mod entries;
 pub mod journalist;
+pub mod places;
 pub mod reading;
 pub mod writing;
