@@ -6,3 +6,4 @@ pub mod journal;
 pub mod memory;
 pub mod model;
 pub mod random;
+pub mod record;

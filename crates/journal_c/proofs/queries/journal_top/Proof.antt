@@ -26,18 +26,23 @@ put-top-requires c κs = search needs
 
 returns : tie.Need-returns
 returns c =
-    let words = c .before .before .before .before .before .before .before .args .words .now in
-    let top = c .before .before .before .before .before .before .before .args .top .now in
-    damaged words _ (c .before .before .before .decode .ensures) topWords _ top _ (c .before .enum-told .given .1) (c .number .ensures)
+    let arm = c .before in
+    let decoded = arm .before .before in
+    let start = decoded .before .before .before .before in
+    damaged (start .args .words .now) _ (decoded .decode .ensures) topWords _ (start .args .top .now) _ (arm .enum-told .given .1) (c .number .ensures)
 
 same-length : tie.Need-same-length
 same-length c = search needs
 
 returns-2 : tie.Need-returns-2
 returns-2 c =
-    let words = c .before .before .before .before .before .before .before .before .before .before .before .before .args .words .now in
-    let top = c .before .before .before .before .before .before .before .before .before .before .before .before .args .top .now in
-    found words _ (c .before .before .before .before .before .before .before .before .decode .ensures) topWords _ top _ _ _ _ (c .before .before .before .before .before .before .j .given .1) (c .before .before .before .replay-journal-top .ensures) (c .before .before .put-top .ensures)
+    let stored = c .before .before in
+    let called = stored .before in
+    let arm = called .before .before .before in
+    let decoded = arm .before .before in
+    let start = decoded .before .before .before .before in
+    found (start .args .words .now) _ (decoded .decode .ensures) topWords _ (start .args .top .now) _ _ _ _ (arm .j .given .1) (called .replay-journal-top .ensures)
+    (stored .put-top .ensures)
 
 pub journal-top-spec : {M : Type 1} → statement M
 journal-top-spec =
