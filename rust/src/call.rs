@@ -1,7 +1,7 @@
 //! A call on the record, or strip, as a value: it is made of the library or of the model.
-use crate::{calls, record};
 use crate::memory::Slices;
 use crate::model::{block, journalist};
+use crate::{calls, record};
 
 #[derive(Clone, Copy, Debug, PartialEq, Eq, PartialOrd, Ord)]
 pub enum Call {
@@ -81,8 +81,9 @@ impl Call {
         made!(self, lent, journalist, block::strip)
     }
 
-    /// The numbers that it may refuse with, in the order of its tests. Where the document's row has
-    /// no 9, words or an answer that are too short are refused with it, last.
+    /// The numbers that it may refuse with, in the order of its tests. (Nothing pending forbids to
+    /// package what is frozen. Where the document's row has no 9, it is given last, for words or an
+    /// answer that are too short.)
     pub fn numbers(self) -> &'static [u64] {
         match self {
             Open { .. } => &[1, 9],

@@ -133,13 +133,21 @@ fn near(words: &[u64], random: &mut Random) -> u64 {
     edge.wrapping_add(random.one_of(&[0, 1, u64::MAX]))
 }
 
-/// Each word of a record, damaged to each value, for each call.
+/// Each word of a record, damaged to each value, for each call; and two words at once.
 #[test]
 fn every_word() {
     let mut tally = Tally::default();
     let random = &mut Random(1);
     for _ in 0..150 * times() {
         let whole = State::new(random);
+        let mut compare = |mut state: State, random: &mut Random| {
+            if random.below(4) > 0 {
+                state.fit();
+            }
+            for call in EVERY.into_iter().chain([QUERIES[random.below(6)]]) {
+                tally.compare(call, &state.lent(call, random));
+            }
+        };
         for at in 0..WORDS {
             let own = whole.words[at];
             let mut all = values(&whole.words).to_vec();
@@ -148,13 +156,16 @@ fn every_word() {
             for value in all {
                 let mut state = whole.clone();
                 state.words[at] = value;
-                if random.below(4) > 0 {
-                    state.fit();
-                }
-                for call in EVERY.into_iter().chain([QUERIES[random.below(6)]]) {
-                    tally.compare(call, &state.lent(call, random));
-                }
+                compare(state, random);
             }
+        }
+        for _ in 0..40 {
+            let mut state = whole.clone();
+            let two = [random.one_of(&values(&whole.words)), near(&whole.words, random)];
+            for value in two {
+                state.words[random.below(WORDS)] = value;
+            }
+            compare(state, random);
         }
     }
     tally.edges();

@@ -1,14 +1,16 @@
 //! The example in each row of the table, and the document's two cases that need whole calls.
 use crate::{weighing, Case, Table};
 use journal_tests::call::{Call, Call::*};
+use journal_tests::journal::{self, Journal, Refusal};
 use journal_tests::memory::Lent;
-use journal_tests::model::block::BLOCK;
+use journal_tests::model::block::{BLOCK, PAYLOAD};
 use journal_tests::model::writing::{self, Entry};
 
 pub fn run(table: &mut Table) {
     examples(table);
     a_full_region(table);
     two_freezes(table);
+    in_rust();
 }
 
 /// What a call does to a record, where it is lent these bytes.
@@ -112,4 +114,16 @@ fn two_freezes(table: &mut Table) {
     assert_eq!(session.words[4..10], [2, 32, 0, 0, 0, 2]);
     assert_eq!([8_191, 8_192].map(|n| session.package(PackageFrozen, n)), [9, 0]);
     assert_eq!(session.words[4..10], [0, 0, 0, 0, 2, 0]);
+}
+
+/// The Rust journal gives the number, and of 12 the block.
+fn in_rust() {
+    let refused = |number, block| Some(Refusal { number, block });
+    assert_eq!(Journal::open(0, 0).err(), refused(1, None));
+    let mut image = writing::image(&[0; 300 * PAYLOAD]);
+    let mut out = vec![0; 300 * PAYLOAD];
+    assert_eq!(journal::strip(&image, &mut out), Ok(()));
+    image[257 * BLOCK + 9] ^= 1;
+    assert_eq!(journal::strip(&image, &mut out).err(), refused(12, Some(257)));
+    assert_eq!(journal::strip(&image[1..], &mut out).err(), refused(11, None));
 }

@@ -1,6 +1,6 @@
 //! Each condition under which a record's counts hang together, where it holds exactly and where it
 //! fails by one, for every call on a record.
-use crate::{empty, weighing, with, Case, Table};
+use crate::{empty, weighing, with, Case, Others, Table};
 use journal_tests::call::{Call, Call::*, QUERIES};
 use journal_tests::memory::Lent;
 use journal_tests::model::block::{BLOCK, PAYLOAD};
@@ -49,7 +49,7 @@ impl Table {
 fn edges(table: &mut Table) {
     let small = |others| with(empty(2, 100), others);
     let large = |others| with(empty(2, 5_000), others);
-    let rows: [(Vec<u64>, &[(usize, u64)]); 36] = [
+    let rows: [(Vec<u64>, &Others); 36] = [
         (empty(1, 0), &[(1, 0)]),
         (empty(1_024, 0), &[(1, 1_025)]),
         (empty(1, 8_388_608), &[(2, 8_388_609)]),
@@ -101,7 +101,7 @@ fn edges(table: &mut Table) {
 /// Numbers whose sums and products are small again in 64 bits, or which are small in 32.
 fn large_numbers(table: &mut Table) {
     const MAX: u64 = u64::MAX;
-    let rows: [&[(usize, u64)]; 19] = [
+    let rows: [&Others; 19] = [
         &[(0, 0)],
         &[(0, (1 << 32) + 1)],
         &[(1, (1 << 32) + 2)],

@@ -56,8 +56,11 @@ fn empty(n: u64, r: u64) -> Vec<u64> {
     words
 }
 
+/// Places of words, and what stands there.
+type Others = [(usize, u64)];
+
 /// The record with other words at these places.
-fn with(mut words: Vec<u64>, others: &[(usize, u64)]) -> Vec<u64> {
+fn with(mut words: Vec<u64>, others: &Others) -> Vec<u64> {
     for (at, word) in others {
         words[*at] = *word;
     }
