@@ -123,10 +123,12 @@ fn main() {
     for of in pieces::EACH_SIZE {
         cases.extend(sizes.iter().map(of));
     }
-    cases.extend(pieces::EACH_SIZE.map(|of| of(&tiny)).into_iter().map(|case| Case {
-        name: format!("tiny {}", case.name),
-        ..case
-    }));
+    cases.extend(
+        pieces::EACH_SIZE
+            .map(|of| of(&tiny))
+            .into_iter()
+            .map(|case| Case { name: format!("tiny {}", case.name), ..case }),
+    );
     cases.extend(small.cases());
 
     println!("                                       best                      rattle / this");

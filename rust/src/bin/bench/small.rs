@@ -58,12 +58,18 @@ impl Small {
                 |w, _| library::update_written(w, 5),
                 |w, _| plain::update_written(w, 5),
             ),
-            case("has frozen", pending, |w, a| library::has_frozen(w, a), |w, a| {
-                plain::has_frozen(w, a)
-            }),
-            case("get written", pending, |w, a| library::get_written(w, a), |w, a| {
-                plain::get_written(w, a)
-            }),
+            case(
+                "has frozen",
+                pending,
+                |w, a| library::has_frozen(w, a),
+                |w, a| plain::has_frozen(w, a),
+            ),
+            case(
+                "get written",
+                pending,
+                |w, a| library::get_written(w, a),
+                |w, a| plain::get_written(w, a),
+            ),
         ]
     }
 }

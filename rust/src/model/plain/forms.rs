@@ -74,11 +74,8 @@ impl Lengths {
         let word = |s: &[u8]| s.first_chunk().map(|word| u32::from_le_bytes(*word));
         let kind_and_length = word(s)?;
         let is_clone = kind_and_length >= CLONE;
-        let (first, limit) = if is_clone {
-            (kind_and_length - CLONE, CLONED)
-        } else {
-            (kind_and_length, INSERTED)
-        };
+        let (first, limit) =
+            if is_clone { (kind_and_length - CLONE, CLONED) } else { (kind_and_length, INSERTED) };
         if first > FIRST {
             return None;
         }

@@ -8,7 +8,7 @@ pub use super::block::strip;
 use super::block::{BLOCK, PAYLOAD};
 use super::reading::{Joined, CLONED, FIRST, INSERTED};
 use forms::Lengths;
-use record::{in_range, Record, BACK, FROZEN, FRONT, HELD, MEMORY, PLACE, START, WORDS, WRITTEN};
+use record::{in_range, Record, BACK, FRONT, FROZEN, HELD, MEMORY, PLACE, START, WORDS, WRITTEN};
 
 fn require(condition: bool, number: u64) -> Result<(), u64> {
     condition.then_some(()).ok_or(number)
