@@ -22,7 +22,7 @@ pub fn cases(buffer: &[u8]) -> Vec<Case<'_>> {
         bytes: buffer.len(),
         ways: functions.iter().map(|&named| way(named, piece)).collect(),
     };
-    [64, 512, 4_064, 1 << 20].map(case).into()
+    [64, 256, 512, 4_064, 1 << 20].map(case).into()
 }
 
 fn over_pieces(buffer: &[u8], piece: usize, function: Crc) -> u64 {

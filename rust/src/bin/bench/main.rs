@@ -131,8 +131,8 @@ fn main() {
     );
     cases.extend(small.cases());
 
-    println!("                                       best                      rattle / this");
-    println!("case                    way         ns/call  ns/byte    MB/s     best  middle");
+    println!("                                         best                      rattle / this");
+    println!("case                      way         ns/call  ns/byte    MB/s     best  middle");
     for mut case in cases.into_iter().filter(|case| case.name.starts_with(only)) {
         let times = measured(&mut case, rounds);
         for (way, [best, middle]) in case.ways.iter().zip(&times) {
@@ -141,7 +141,7 @@ fn main() {
             let speed = case.bytes as f64 / best / 1e6;
             let [than_best, than_middle] = [times[0][0] / best, times[0][1] / middle];
             println!(
-                "{:23} {:11} {a_call:9.1} {a_byte:8.4} {speed:7.0} {than_best:8.3} {than_middle:7.3}",
+                "{:25} {:11} {a_call:9.1} {a_byte:8.4} {speed:7.0} {than_best:8.3} {than_middle:7.3}",
                 case.name, way.name
             );
         }

@@ -260,7 +260,7 @@ fn places(measure: &mut dyn FnMut(Row)) {
     let n = MOST as u64;
     let both = |small: &[u64], large: &[u64]| {
         [(1, small), (n, large)].map(|(n, numbers)| Call {
-            what: format!("{} in {}", listed(numbers), blocks(n as usize)),
+            what: format!("N = {n}, {}", listed(numbers)),
             record: None,
             others: [&[n], numbers, &answer].concat(),
         })
@@ -277,5 +277,5 @@ fn places(measure: &mut dyn FnMut(Row)) {
 }
 
 fn listed(numbers: &[u64]) -> String {
-    numbers.iter().map(u64::to_string).collect::<Vec<_>>().join(" ")
+    numbers.iter().map(u64::to_string).collect::<Vec<_>>().join(", ")
 }

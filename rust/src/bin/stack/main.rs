@@ -12,12 +12,12 @@ use std::process::ExitCode;
 
 const LIMIT: usize = 2_048;
 
-/// The calls that the header declares: a name before each parenthesis that opens.
+/// The calls that the header declares, a prototype on a line.
 fn declared() -> BTreeSet<&'static str> {
     let header = include_str!("../../../../c/journal.h");
-    let before = header.lines().filter(|line| line.ends_with(')') || line.contains(");"));
+    let prototypes = header.lines().filter(|line| line.contains(");"));
     let name = |line: &'static str| line.split('(').next()?.split(' ').next_back();
-    before.filter_map(name).filter(|name| name.starts_with("journal_")).collect()
+    prototypes.filter_map(name).collect()
 }
 
 fn main() -> ExitCode {
