@@ -13,6 +13,7 @@ use Rattle.journal_entry.specs.Entry.{JournalEntry, SumJournalEntries, WeightJo
 use Rattle.journal_entry.proofs.Reading.{length-wires, readExactly-wires}
 use Rattle.journal_ring.specs.Ring.{rotated, cyclicSlice}
 use Rattle.journal_ring.proofs.RingLaws.{take-front, drop-front}
+use Rattle.journal_range.specs.Payload.{parsePayload}
 use Rattle.marshalling.specs.Marshall.{marshallJournalEntries}
 use Rattle.marshalling.proofs.Images.{length-image}
 use Rattle.marshalling.proofs.RoundTrip.{Holds}
@@ -24,7 +25,7 @@ use Rattle.journalist.proofs.Facts.{facts}
 use Rattle.journalist.proofs.PackageLaws.{FrozenTaken, MemoryTaken, frozen-taken, frozen-batch, memory-taken, memory-batch, Batch, packaged-frozen-hangs, packaged-memory-hangs}
 use Rattle.history.specs.Lists.{packagingFrozen, packagingInMemory}
 use Rattle.history.specs.Calls.{leaves, recordOf, imageIn}
-use Rattle.history.specs.History.{World, following}
+use Rattle.history.specs.History.{Image, World, following, Whole, payloads}
 use Rattle.history.proofs.Counts.{weight-of, none-of}
 use Rattle.history.proofs.Images.{imageOf, image-whole, images-read, whole-more}
 use Rattle.history.proofs.Invariant.{Invariant}
@@ -100,12 +101,12 @@ module _ (n : ℕ) (w : World) (i : Invariant n w) where
         let same = image-same frozen (j .held) _ _ (frozen-is .holds) added bytes in
         let long : 0 + SumJournalEntries memory ≡ SumJournalEntries memory = omega arith in
         let k = facts j (i .hangs) .counts in
-        rw (← same)
-        (record {
+        record {
           after = record {
-            images-whole = whole-more (w .images) _ (a .images-whole) (image-whole frozen (j .held) (frozen-is .holds));
+            images-whole = whole-more (w .images) _ (a .images-whole) (subst Whole same (image-whole frozen (j .held) (frozen-is .holds)));
             written-within = omega (arith, a .frozen-blocks, a .written-blocks, i .blocks-are);
-            images-read = images-read frozen (j .held) (frozen-is .holds) (w .images) (w .lists .out) (a .images-whole) (a .images-read);
+            images-read = subst (λ (x : Image). parsePayload (payloads (w .images ++ (x ∷ []))) ≡ some (w .lists .out ++ frozen)) same
+                (images-read frozen (j .held) (frozen-is .holds) (w .images) (w .lists .out) (a .images-whole) (a .images-read));
             frozen-counts = refl;
             memory-counts = a .memory-counts;
             frozen-blocks = refl;
@@ -119,7 +120,7 @@ module _ (n : ℕ) (w : World) (i : Invariant n w) where
           ring-long = i .ring-long;
           frozen-within = tt;
           memory-within = i .memory-within;
-        })
+        }
 
   pub after-package-frozen : (out : List ℕ)
       → Invariant n
@@ -162,12 +163,12 @@ module _ (n : ℕ) (w : World) (i : Invariant n w) where
         let bytes : take (4096 * b) (memoryImage j (w .ring) ++ drop (4096 * b) out) ≡ marshallJournalEntries memory b =
         rw (memory-is .image-is) (written-image memory b out (memory-is .holds)) in
         let same = image-same memory b _ _ (memory-is .holds) added bytes in
-        rw (← same)
-        (record {
+        record {
           after = record {
-            images-whole = whole-more (w .images) _ (a .images-whole) (image-whole memory b (memory-is .holds));
+            images-whole = whole-more (w .images) _ (a .images-whole) (subst Whole same (image-whole memory b (memory-is .holds)));
             written-within = packaged-within;
-            images-read = images-read memory b (memory-is .holds) (w .images) (w .lists .out) (a .images-whole) (a .images-read);
+            images-read = subst (λ (x : Image). parsePayload (payloads (w .images ++ (x ∷ []))) ≡ some (w .lists .out ++ memory)) same
+                (images-read memory b (memory-is .holds) (w .images) (w .lists .out) (a .images-whole) (a .images-read));
             frozen-counts = a .frozen-counts;
             memory-counts = refl;
             frozen-blocks = a .frozen-blocks;
@@ -180,7 +181,7 @@ module _ (n : ℕ) (w : World) (i : Invariant n w) where
           ring-long = i .ring-long;
           frozen-within = i .frozen-within;
           memory-within = tt;
-        })
+        }
       where
         packaged-within : w .lists .written + blocksFor (WeightJournalEntries memory) ≤ n
         packaged-within =
