@@ -10,6 +10,14 @@ pub mod raw {
         pub fn journal_range(front: *const u8, front_len: usize, back: *const u8, back_len: usize, totals: *mut u64, totals_len: usize) -> u64;
         pub fn journal_put_entry(ring: *mut u8, ring_len: usize, start: usize, pending: usize, clone: bool, first: *const u8, first_len: usize, second: *const u8, second_len: usize) -> bool;
         pub fn journal_marshall(a: *const u8, a_len: usize, b: *const u8, b_len: usize, at: usize, n: usize, entries: u32, blocks: u32, out: *mut u8, out_len: usize) -> bool;
+        pub fn journal_place_of_block(n: u64, block: u64, answer: *mut u64, answer_len: usize) -> u64;
+        pub fn journal_place_front(n: u64, start: u64, len: u64, answer: *mut u64, answer_len: usize) -> u64;
+        pub fn journal_place_back(n: u64, start: u64, len: u64, answer: *mut u64, answer_len: usize) -> u64;
+        pub fn journal_place_next_start(n: u64, start: u64, len: u64, answer: *mut u64, answer_len: usize) -> u64;
+        pub fn journal_place_contained(n: u64, a_start: u64, a_len: u64, b_start: u64, b_len: u64, answer: *mut u64, answer_len: usize) -> u64;
+        pub fn journal_place_overlap(n: u64, a_start: u64, a_len: u64, b_start: u64, b_len: u64, answer: *mut u64, answer_len: usize) -> u64;
+        pub fn journal_place_location(n: u64, start: u64, len: u64, answer: *mut u64, answer_len: usize) -> u64;
+        pub fn journal_place_interval(n: u64, addr: u64, len: u64, answer: *mut u64, answer_len: usize) -> u64;
         pub fn journal_has_frozen(words: *const u64, words_len: usize, answer: *mut u64, answer_len: usize) -> u64;
         pub fn journal_has_in_memory(words: *const u64, words_len: usize, answer: *mut u64, answer_len: usize) -> u64;
         pub fn journal_get_written(words: *const u64, words_len: usize, answer: *mut u64, answer_len: usize) -> u64;
@@ -106,4 +114,70 @@ pub fn marshall(
             out.len(),
         )
     }
+}
+
+pub fn place_of_block(n: u64, block: u64, answer: &mut [u64]) -> u64 {
+    unsafe { raw::journal_place_of_block(n, block, answer.as_mut_ptr(), answer.len()) }
+}
+
+pub fn place_front(n: u64, start: u64, len: u64, answer: &mut [u64]) -> u64 {
+    unsafe { raw::journal_place_front(n, start, len, answer.as_mut_ptr(), answer.len()) }
+}
+
+pub fn place_back(n: u64, start: u64, len: u64, answer: &mut [u64]) -> u64 {
+    unsafe { raw::journal_place_back(n, start, len, answer.as_mut_ptr(), answer.len()) }
+}
+
+pub fn place_next_start(n: u64, start: u64, len: u64, answer: &mut [u64]) -> u64 {
+    unsafe { raw::journal_place_next_start(n, start, len, answer.as_mut_ptr(), answer.len()) }
+}
+
+pub fn place_contained(
+    n: u64,
+    a_start: u64,
+    a_len: u64,
+    b_start: u64,
+    b_len: u64,
+    answer: &mut [u64],
+) -> u64 {
+    unsafe {
+        raw::journal_place_contained(
+            n,
+            a_start,
+            a_len,
+            b_start,
+            b_len,
+            answer.as_mut_ptr(),
+            answer.len(),
+        )
+    }
+}
+
+pub fn place_overlap(
+    n: u64,
+    a_start: u64,
+    a_len: u64,
+    b_start: u64,
+    b_len: u64,
+    answer: &mut [u64],
+) -> u64 {
+    unsafe {
+        raw::journal_place_overlap(
+            n,
+            a_start,
+            a_len,
+            b_start,
+            b_len,
+            answer.as_mut_ptr(),
+            answer.len(),
+        )
+    }
+}
+
+pub fn place_location(n: u64, start: u64, len: u64, answer: &mut [u64]) -> u64 {
+    unsafe { raw::journal_place_location(n, start, len, answer.as_mut_ptr(), answer.len()) }
+}
+
+pub fn place_interval(n: u64, addr: u64, len: u64, answer: &mut [u64]) -> u64 {
+    unsafe { raw::journal_place_interval(n, addr, len, answer.as_mut_ptr(), answer.len()) }
 }

@@ -5,3 +5,4 @@ pub mod Writing
 pub mod Record
 pub mod Queries
 pub mod Recovery
+pub mod Places

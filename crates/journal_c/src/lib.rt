@@ -1,4 +1,6 @@
 // The journal for C and Rust: numbers and lent slices only. A call gives 0, or the number of its refusal.
+mod places;
+
 ghost use mathlib.Core.Path.{_≡_};
 ghost use mathlib.Core.List.{_++_};
 ghost use Rattle.crc32c.specs.Crc32c.{crc32cOf};

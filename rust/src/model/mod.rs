@@ -2,5 +2,6 @@
 //! the Rattle crates.
 pub mod block;
 pub mod crc;
+pub mod places;
 pub mod reading;
 pub mod writing;
