@@ -1,14 +1,14 @@
 -- Counts, weights and order of the plain lists. Assumes nothing.
 use mathlib.Core.Path.{_≡_, refl, _∙_}
 use mathlib.Core.List.{List, [], _∷_, _++_, append-assoc, append-nil}
-use Prim.Native.Nat.{ℕ, _+_, _*_, _≤_}
+use Prim.Native.Nat.{ℕ}
 use native.Mathlib.Omega.{arith}
 use lib.Dec.{eqb·suc-zero}
 use lib.ListN.{length, length-append}
 use Rattle.journal_entry.specs.Entry.{JournalEntry, SumJournalEntries, WeightJournalEntries, wire, wires}
 use Rattle.journal_entry.proofs.Reading.{sum-append, wires-append}
 use Rattle.journalist.specs.declared.Pending.{Pending}
-use Rattle.journalist.specs.Record.{listWeight, blocksFor}
+use Rattle.journalist.specs.Record.{listWeight}
 use Rattle.journalist.specs.Changes.{single, joined}
 use Rattle.history.specs.History.{countsOf}
 

@@ -11,7 +11,7 @@ use Rattle.journalist.specs.Calls.{openCall}
 use Rattle.journalist.specs.Record.{hangsTogether}
 use Rattle.journalist.specs.Package.{frozenRead, memoryRead}
 use Rattle.history.specs.Calls.{Call, append, freeze, packageFrozenJournal, packageInMemoryJournal, setWrittenJournalLen, updateWrittenJournalLen, setFront, setBack, parseJournals, replayJournalTop, replayJournalPop, query, toldOf, step}
-use Rattle.history.specs.History.{World, opened, following, run, HistoryRule, History}
+use Rattle.history.specs.History.{World, opened, following, run, History}
 use Rattle.history.proofs.Invariant.{Invariant, at-opening}
 use Rattle.history.proofs.Steps.{after-append, after-freeze, after-set, after-update}
 use Rattle.history.proofs.Packaging.{frozen-reads, memory-reads, after-package-frozen, after-package-in-memory}

@@ -1,20 +1,15 @@
 -- The calls on front, back and replay, and the queries, keep what holds between the calls of a history. Assumes nothing.
-use mathlib.Core.Path.{_≡_, refl, sym, _∙_}
-use mathlib.Core.Bool.{true}
+use mathlib.Core.Path.{_≡_, refl}
 use mathlib.Core.List.{List}
 use mathlib.Core.Option.{none}
 use Prim.Native.Nat.{ℕ}
-use Rattle.refusals.specs.Outcome.{Outcome, gives, refuses, refusesBlock, require_else_then_, into}
-use Rattle.refusals.proofs.Outcomes.{require-told, into-told}
-use Rattle.replay_cursor.specs.Calls.{popCall}
-use Rattle.journalist.specs.declared.Side.the-variants.{Blocks}
+use Rattle.refusals.specs.Outcome.{Outcome, gives, refuses, refusesBlock}
 use Rattle.journalist.specs.declared.Journalist.{Journalist}
-use Rattle.journalist.specs.Record.{hangsTogether}
-use Rattle.journalist.specs.Changes.{withReplay, withSides, loadedRecord}
+use Rattle.journalist.specs.Changes.{loadedRecord}
 use Rattle.journalist.specs.Calls.{queryCall}
-use Rattle.journalist.specs.Recovery.{setSideCall, setFrontCall, setBackCall, parseJournalsCall, replayJournalTopCall, replayJournalPopCall}
-use Rattle.journalist.proofs.RecoveryLaws.{front-hangs, back-hangs, load-taken, loaded-hangs}
-use Rattle.journalist.proofs.Replaying.{popped-record-hangs}
+use Rattle.journalist.specs.Recovery.{setFrontCall, setBackCall, parseJournalsCall, replayJournalTopCall, replayJournalPopCall}
+use Rattle.journalist.proofs.RecoveryLaws.{front-taken, front-hangs, back-taken, back-hangs, load-taken, loaded-hangs}
+use Rattle.journalist.proofs.Replaying.{pop-exactly, popped-record-hangs}
 use Rattle.history.specs.Lists.{another}
 use Rattle.history.specs.Calls.{Query, frozenQuery, inMemoryQuery, writtenQuery, replayQuery, frontQuery, backQuery, leaves, keeping, asked}
 use Rattle.history.specs.History.{World, following}
@@ -49,19 +44,15 @@ module _ (n : ℕ) (w : World) (i : Invariant n w) where
   after-top replay = keeps (replayJournalTopCall j replay)
 
   front-set : (payload front : List ℕ) (k : Journalist) → setFrontCall j payload front ≡ gives k → Recovered n w i k
-  unfolding setFrontCall
   front-set payload front k e =
-      into-told _ (setSideCall j payload front) k e λ blocks given is.
-      record { replay = j .replay; front = Blocks blocks; back = j .back; is = is; hangs = front-hangs j payload front k e }
+      record { replay = _; front = _; back = _; is = front-taken j payload front k e .1; hangs = front-hangs j payload front k e }
 
   pub after-front : (payload front : List ℕ) → Invariant n (following w another (leaves (setFrontCall j payload front) j (w .ring) none))
   after-front payload front = after-other n w i (setFrontCall j payload front) (front-set payload front)
 
   back-set : (payload back : List ℕ) (k : Journalist) → setBackCall j payload back ≡ gives k → Recovered n w i k
-  unfolding setBackCall
   back-set payload back k e =
-      into-told _ (setSideCall j payload back) k e λ blocks given is.
-      record { replay = j .replay; front = j .front; back = Blocks blocks; is = is; hangs = back-hangs j payload back k e }
+      record { replay = _; front = _; back = _; is = back-taken j payload back k e .1; hangs = back-hangs j payload back k e }
 
   pub after-back : (payload back : List ℕ) → Invariant n (following w another (leaves (setBackCall j payload back) j (w .ring) none))
   after-back payload back = after-other n w i (setBackCall j payload back) (back-set payload back)
@@ -69,19 +60,15 @@ module _ (n : ℕ) (w : World) (i : Invariant n w) where
   loaded : (front back replay : List ℕ) (k : Journalist) → parseJournalsCall j front back replay ≡ gives k → Recovered n w i k
   unfolding loadedRecord
   loaded front back replay k e =
-      let t = load-taken j front back replay k e in
-      record { replay = _; front = _; back = _; is = sym (t .made); hangs = loaded-hangs j front back replay k e }
+      record { replay = _; front = _; back = _; is = load-taken j front back replay k e .1; hangs = loaded-hangs j front back replay k e }
 
   pub after-load : (front back replay : List ℕ)
       → Invariant n (following w another (leaves (parseJournalsCall j front back replay) j (w .ring) none))
   after-load front back replay = after-other n w i (parseJournalsCall j front back replay) (loaded front back replay)
 
   popped : (replay : List ℕ) (k : Journalist) → replayJournalPopCall j replay ≡ gives k → Recovered n w i k
-  unfolding replayJournalPopCall
   popped replay k e =
-      require-told (hangsTogether j) 2 _ k e λ hangs e₁.
-      into-told (withReplay j) (popCall (j .replay) replay) k e₁ λ rest given is.
-      record { replay = rest; front = j .front; back = j .back; is = is; hangs = popped-record-hangs j replay k e }
+      record { replay = _; front = _; back = _; is = pop-exactly j replay .given-told k e .1; hangs = popped-record-hangs j replay k e }
 
   pub after-pop : (replay : List ℕ) → Invariant n (following w another (leaves (replayJournalPopCall j replay) j (w .ring) none))
   after-pop replay = after-other n w i (replayJournalPopCall j replay) (popped replay)

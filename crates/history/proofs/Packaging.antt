@@ -1,19 +1,17 @@
 -- Both packagings keep what holds between the calls of a history: the ring's bytes read as the plain lists, and the image is the list's. Assumes nothing.
-use mathlib.Core.Path.{_≡_, refl, sym, ap, ap₂, _∙_, subst₂}
-use mathlib.Core.Bool.{true}
-use mathlib.Core.List.{List, [], _∷_, _++_, append-assoc, append-nil}
-use mathlib.Core.Option.{some, Option·getD}
-use Prim.Native.Nat.{ℕ, _+_, _-_, _*_, _≤_, _<_}
+use mathlib.Core.Path.{_≡_, refl, sym, ap, ap₂, _∙_, subst}
+use mathlib.Core.List.{List, [], _++_, append-assoc, append-nil}
+use mathlib.Core.Option.{some}
+use Prim.Native.Nat.{ℕ, _+_, _-_, _*_, _≤_}
 use native.Mathlib.Nat.{sub-zero}
 use native.Mathlib.Omega.{arith}
 use lib.ListN.{length, take, drop}
 use lib.Seq.{take-at, drop-at}
 use Rattle.refusals.specs.Outcome.{Outcome, gives, refuses, refusesBlock, bytesAfter}
 use Rattle.words.proofs.Slices.{drop-take}
-use Rattle.journal_entry.specs.Entry.{JournalEntry, SumJournalEntries, WeightJournalEntries, AllWithin, wires}
-use Rattle.journal_entry.specs.Places.{part}
-use Rattle.journal_entry.proofs.Reading.{length-wires, eight-each, readExactly-wires}
-use Rattle.journal_ring.specs.Ring.{rotated, cyclicSlice, advance}
+use Rattle.journal_entry.specs.Entry.{JournalEntry, SumJournalEntries, WeightJournalEntries, wires}
+use Rattle.journal_entry.proofs.Reading.{length-wires, readExactly-wires}
+use Rattle.journal_ring.specs.Ring.{rotated, cyclicSlice}
 use Rattle.journal_ring.proofs.RingLaws.{take-front, drop-front}
 use Rattle.marshalling.specs.Marshall.{marshallJournalEntries}
 use Rattle.marshalling.proofs.Images.{length-image}
@@ -22,15 +20,18 @@ use Rattle.journalist.specs.declared.Journalist.{Journalist}
 use Rattle.journalist.specs.Record.{listWeight, blocksFor}
 use Rattle.journalist.specs.Changes.{packagedFrozenRecord, packagedInMemoryRecord}
 use Rattle.journalist.specs.Package.{frozenRead, memoryRead, memoryBlocks, packageFrozenJournalCall, packageInMemoryJournalCall, frozenImage, memoryImage, frozenPackaged, memoryPackaged}
-use Rattle.journalist.proofs.Facts.{facts, weight-is}
-use Rattle.journalist.proofs.PackageLaws.{FrozenGiven, MemoryGiven, frozen-told, memory-told, packaged-frozen-hangs, packaged-memory-hangs}
+use Rattle.journalist.proofs.Facts.{facts}
+use Rattle.journalist.proofs.PackageLaws.{FrozenTaken, MemoryTaken, frozen-taken, frozen-batch, memory-taken, memory-batch, Batch, packaged-frozen-hangs, packaged-memory-hangs}
 use Rattle.history.specs.Lists.{packagingFrozen, packagingInMemory}
 use Rattle.history.specs.Calls.{leaves, recordOf, imageIn}
-use Rattle.history.specs.History.{World, Image, following, countsOf}
+use Rattle.history.specs.History.{World, following}
 use Rattle.history.proofs.Counts.{weight-of, none-of}
 use Rattle.history.proofs.Images.{imageOf, image-whole, images-read, whole-more}
 use Rattle.history.proofs.Invariant.{Invariant}
-use Rattle.history.proofs.Steps.{frozen-sum, memory-sum, sum}
+use Rattle.history.proofs.Steps.{frozen-sum, memory-sum}
+
+some-same : {A : Type 0} {a b : A} → some a ≡ some b → a ≡ b
+some-same e = cc
 
 -- what is at the front of the output behind a packaging
 written-image : (es : List JournalEntry) (b : ℕ) (out : List ℕ) → Holds es b
@@ -80,23 +81,12 @@ module _ (n : ℕ) (w : World) (i : Invariant n w) where
       rw (frozen-sum n w i, memory-sum n w i, held, ap (λ l. l .entries) (i .after .memory-counts)) (readExactly-wires memory (i .memory-within))
 
   -- package frozen
-  module _ (out : List ℕ) (t : FrozenGiven j (w .ring) out) where
-    frozen-holds : Holds frozen (j .held)
-    frozen-holds =
-        let k = facts j (i .hangs) .counts in
-        let some = t .some-entries in
-        let each = eight-each frozen in
-        let many = ap (λ l. l .entries) (i .after .frozen-counts) in
-        record {
-          within = i .frozen-within;
-          entries = omega (arith, frozen-sum n w i);
-          blocks = omega arith;
-          room = omega (arith, frozen-sum n w i);
-        }
-
-    frozen-image : frozenImage j (w .ring) ≡ marshallJournalEntries frozen (j .held)
-    unfolding frozenImage
-    frozen-image = rw frozen-reads
+  module _ (out : List ℕ) (t : FrozenTaken j (w .ring) out) where
+    -- the batch of the entries that the ring was read as is that of the plain list
+    frozen-is : Batch (j .frozen) (j .held) (frozenRead j (w .ring)) (frozenImage j (w .ring)) frozen
+    frozen-is =
+        frozen-batch j (w .ring) out t λ es b.
+        subst (Batch (j .frozen) (j .held) (frozenRead j (w .ring)) (frozenImage j (w .ring))) (some-same (sym (b .reads-as) ∙ frozen-reads)) b
 
     frozen-packaged : Invariant n
         (following w packagingFrozen
@@ -106,16 +96,16 @@ module _ (n : ℕ) (w : World) (i : Invariant n w) where
         let a = i .after in
         let added : j .written + j .held - j .written ≡ j .held = omega arith in
         let bytes : take (4096 * j .held) (frozenImage j (w .ring) ++ drop (4096 * j .held) out) ≡ marshallJournalEntries frozen (j .held) =
-        rw frozen-image (written-image frozen (j .held) out frozen-holds) in
-        let same = image-same frozen (j .held) _ _ frozen-holds added bytes in
+        rw (frozen-is .image-is) (written-image frozen (j .held) out (frozen-is .holds)) in
+        let same = image-same frozen (j .held) _ _ (frozen-is .holds) added bytes in
         let long : 0 + SumJournalEntries memory ≡ SumJournalEntries memory = omega arith in
         let k = facts j (i .hangs) .counts in
         rw (← same)
         (record {
           after = record {
-            images-whole = whole-more (w .images) _ (a .images-whole) (image-whole frozen (j .held) frozen-holds);
+            images-whole = whole-more (w .images) _ (a .images-whole) (image-whole frozen (j .held) (frozen-is .holds));
             written-within = omega (arith, a .frozen-blocks, a .written-blocks, i .blocks-are);
-            images-read = images-read frozen (j .held) frozen-holds (w .images) (w .lists .out) (a .images-whole) (a .images-read);
+            images-read = images-read frozen (j .held) (frozen-is .holds) (w .images) (w .lists .out) (a .images-whole) (a .images-read);
             frozen-counts = refl;
             memory-counts = a .memory-counts;
             frozen-blocks = refl;
@@ -143,38 +133,23 @@ module _ (n : ℕ) (w : World) (i : Invariant n w) where
           (following w packagingFrozen
           (leaves (recordOf o) j (w .ring) (imageIn o (bytesAfter o (frozenImage j (w .ring) ++ drop (4096 * j .held) out) out))))
       go (gives k) h =
-          let (t, is, blocks) = frozen-told j (w .ring) out (k .0) (k .1) h in
-          subst₂ (λ (x : Journalist) (b : ℕ). Invariant n (following w packagingFrozen (leaves (gives x) j (w .ring) (some (take (4096 * b) (frozenImage j (w .ring) ++ drop (4096 * j .held) out))))))
-          is blocks (frozen-packaged out t)
+          let (t, is) = frozen-taken j (w .ring) out k h in
+          rw (← is) (frozen-packaged out t)
       go (refuses number) h = i
       go (refusesBlock number block) h = i
 
   -- package in memory
-  module _ (out : List ℕ) (t : MemoryGiven j (w .ring) out) where
+  module _ (out : List ℕ) (t : MemoryTaken j (w .ring) out) where
     weight : listWeight (j .memory) ≡ WeightJournalEntries memory
     weight = weight-of (j .memory) memory (i .after .memory-counts)
 
     no-frozen : frozen ≡ []
     no-frozen = none-of frozen (sym (ap (λ l. l .entries) (i .after .frozen-counts)) ∙ t .no-frozen)
 
-    memory-holds : Holds memory (memoryBlocks j)
-    unfolding blocksFor
-    memory-holds =
-        let k = facts j (i .hangs) .counts in
-        let weighs = weight-is (j .memory) (k .memory-most) in
-        let some = t .some-entries in
-        let each = eight-each memory in
-        let many = ap (λ l. l .entries) (i .after .memory-counts) in
-        record {
-          within = i .memory-within;
-          entries = omega (arith, memory-sum n w i);
-          blocks = omega arith;
-          room = omega (arith, memory-sum n w i);
-        }
-
-    memory-image : memoryImage j (w .ring) ≡ marshallJournalEntries memory (memoryBlocks j)
-    unfolding memoryImage
-    memory-image = rw memory-reads
+    memory-is : Batch (j .memory) (memoryBlocks j) (memoryRead j (w .ring)) (memoryImage j (w .ring)) memory
+    memory-is =
+        memory-batch j (w .ring) out t λ es b.
+        subst (Batch (j .memory) (memoryBlocks j) (memoryRead j (w .ring)) (memoryImage j (w .ring))) (some-same (sym (b .reads-as) ∙ memory-reads)) b
 
     memory-packaged : Invariant n
         (following w packagingInMemory
@@ -185,14 +160,14 @@ module _ (n : ℕ) (w : World) (i : Invariant n w) where
         let b = memoryBlocks j in
         let added : j .written + b - j .written ≡ b = omega arith in
         let bytes : take (4096 * b) (memoryImage j (w .ring) ++ drop (4096 * b) out) ≡ marshallJournalEntries memory b =
-        rw memory-image (written-image memory b out memory-holds) in
-        let same = image-same memory b _ _ memory-holds added bytes in
+        rw (memory-is .image-is) (written-image memory b out (memory-is .holds)) in
+        let same = image-same memory b _ _ (memory-is .holds) added bytes in
         rw (← same)
         (record {
           after = record {
-            images-whole = whole-more (w .images) _ (a .images-whole) (image-whole memory b memory-holds);
+            images-whole = whole-more (w .images) _ (a .images-whole) (image-whole memory b (memory-is .holds));
             written-within = packaged-within;
-            images-read = images-read memory b memory-holds (w .images) (w .lists .out) (a .images-whole) (a .images-read);
+            images-read = images-read memory b (memory-is .holds) (w .images) (w .lists .out) (a .images-whole) (a .images-read);
             frozen-counts = a .frozen-counts;
             memory-counts = refl;
             frozen-blocks = a .frozen-blocks;
@@ -224,8 +199,7 @@ module _ (n : ℕ) (w : World) (i : Invariant n w) where
           (following w packagingInMemory
           (leaves (recordOf o) j (w .ring) (imageIn o (bytesAfter o (memoryImage j (w .ring) ++ drop (4096 * memoryBlocks j) out) out))))
       go (gives k) h =
-          let (t, is, blocks) = memory-told j (w .ring) out (k .0) (k .1) h in
-          subst₂ (λ (x : Journalist) (b : ℕ). Invariant n (following w packagingInMemory (leaves (gives x) j (w .ring) (some (take (4096 * b) (memoryImage j (w .ring) ++ drop (4096 * memoryBlocks j) out))))))
-          is blocks (memory-packaged out t)
+          let (t, is) = memory-taken j (w .ring) out k h in
+          rw (← is) (memory-packaged out t)
       go (refuses number) h = i
       go (refusesBlock number block) h = i

@@ -1,24 +1,22 @@
 -- What a record whose counts hang together tells of its numbers, and back. Assumes nothing.
-use Prim.Native.Nat.{ℕ, _+_, _*_, _-_, _/_, _≤_, _<_, min, max}
-use mathlib.Core.Bool.{Bool, true, false, not, cond, _&&_}
+use Prim.Native.Nat.{ℕ, _+_, _*_, _-_, _≤_, _<_, min, max}
+use mathlib.Core.Bool.{Bool, true, false, cond, _&&_}
+use mathlib.Core.List.{List}
 use mathlib.Core.Path.{_≡_, refl, sym}
 use native.Mathlib.Omega.{arith}
 use lib.Dec.{leb, ltb, eqb}
+use lib.ListN.{length}
 use borrow.Author.Tests.{le-leb, lt-leb, lt-ltb, eq-eqb, ne-eqb, leb-true, ltb-true, eqb-true, eqb-false}
 use Rattle.disk_layout.specs.DiskLayout.{blocksInRange}
 use Rattle.disk_layout.proofs.Intervals as intervals
-use Rattle.refusals.proofs.Tests.{both, same, never}
+use Rattle.refusals.proofs.Tests.{both, same, leb-same, never}
 use Rattle.replay_cursor.specs.Cursor.{countsHang}
 use Rattle.replay_cursor.proofs.Counts.{counts-least, counts-most, counts-true}
 use Rattle.journalist.specs.Record.{inRange, listWeight, blocksFor, startHangs, regionHangs, sideHangs, hangsTogether}
+use Rattle.journalist.specs.Append.{ringHangs}
 use Rattle.journalist.specs.declared.Pending.{Pending}
 use Rattle.journalist.specs.declared.Side.the-variants.{Absent, Blocks}
 use Rattle.journalist.specs.declared.Journalist.{Journalist}
-
--- two comparisons are the same where each gives the other
-pub leb-same : (a b c d : ℕ) → (a ≤ b → c ≤ d) → (c ≤ d → a ≤ b) → leb a b ≡ leb c d
-leb-same a b c d f g =
-    same (leb a b) (leb c d) (λ h. le-leb c d (f (leb-true a b h))) (λ h. le-leb a b (g (leb-true c d h)))
 
 -- N and R
 pub record InRange (n r : ℕ) : Type 0 where
@@ -291,3 +289,11 @@ together j f =
       f .front,
       f .back,
     )
+
+-- the same of a record and a lent ring that hangs with it
+pub ring-told : (j : Journalist) (ring : List ℕ) → ringHangs j ring ≡ true → (hangsTogether j ≡ true) × (length ring ≡ j .ring)
+ring-told j ring h =
+    let p = both (hangsTogether j) (eqb (length ring) (j .ring)) h in (p .0, eqb-true (length ring) (j .ring) (p .1))
+
+pub ring-counts : (j : Journalist) (ring : List ℕ) → ringHangs j ring ≡ true → CountsOf j
+ring-counts j ring h = facts j (ring-told j ring h .0) .counts

@@ -1,4 +1,6 @@
--- The record hangs together again after each call that changes it. Assumes nothing.
+-- The record hangs together again after opening, freeze, set and update written. The other calls have the same beside their laws: `appended-hangs` in
+-- AppendLaws, `packaged-frozen-hangs` and `packaged-memory-hangs` in PackageLaws, `front-hangs`, `back-hangs` and `loaded-hangs` in RecoveryLaws,
+-- `popped-record-hangs` in Replaying. Assumes nothing.
 use Prim.Native.Nat.{ℕ, _≤_}
 use mathlib.Core.Bool.{true}
 use mathlib.Core.Path.{_≡_, refl}

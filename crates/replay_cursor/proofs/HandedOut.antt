@@ -1,12 +1,14 @@
 -- Where the bytes left are entries' wire forms, top and pop hand out exactly those entries, one by one, and then say that nothing is there.
 -- Assumes nothing.
 use Prim.Native.Nat.{ℕ, _+_, _-_, _≤_}
-use mathlib.Core.Bool.{true}
+use mathlib.Core.Bool.{true, false, not}
 use mathlib.Core.List.{List, [], _∷_, _++_}
 use mathlib.Core.Path.{_≡_, refl, sym, ap, _∙_}
 use native.Mathlib.Omega.{arith}
+use lib.Dec.{eqb}
 use lib.ListN.{length, take, length-append}
 use lib.Seq.{take-at}
+use borrow.Author.Tests.{eq-eqb}
 use Rattle.refusals.specs.Outcome.{gives, refuses}
 use Rattle.journal_entry.specs.Entry.{JournalEntry, AllWithin, WeightJournalEntry, SumJournalEntries, wires}
 use Rattle.journal_entry.specs.Parse.{parseEntry}
@@ -18,7 +20,7 @@ use Rattle.replay_cursor.specs.declared.Top.{Top}
 use Rattle.replay_cursor.specs.Cursor.{liesIn, topEntry, topOf, entryAtTop, restBehind}
 use Rattle.replay_cursor.specs.Calls.{topCall, popCall}
 use Rattle.replay_cursor.proofs.Counts.{counts-true}
-use Rattle.replay_cursor.proofs.Rows.{lies-facts, lies-true, row-8, Found, top-found, pop-found, restHangs, behind}
+use Rattle.replay_cursor.proofs.Rows.{lies-facts, lies-true, top-exactly, pop-exactly, Found, top-found, pop-found, restHangs}
 use Rattle.replay_cursor.proofs.Entries.{left, Front, front-read}
 
 -- the bytes left are the entries' wire forms
@@ -56,9 +58,9 @@ module _ (c : Replay) (s : List ℕ) where
 
 module _ (c : Replay) (s : List ℕ) where
   pub none-left : Holds c s [] → (topCall c s ≡ refuses 8) × (popCall c s ≡ refuses 8)
-  unfolding topCall popCall
   none-left h =
-      (row-8 c s (λ p. gives (topOf p)) (holds-lies c s [] h) (h .count), row-8 c s (behind c) (holds-lies c s [] h) (h .count))
+      let stop : (liesIn c s ≡ true) × (not (eqb (c .entries) 0) ≡ false) = (holds-lies c s [] h, ap not (eq-eqb (c .entries) 0 (h .count))) in
+      (top-exactly c s .refused 8 stop, pop-exactly c s .refused 8 stop)
 
   module _ (e : JournalEntry) (es : List JournalEntry) (h : Holds c s (e ∷ es)) where
     front : Front s (c .place) (c .place + c .bytes) e (wires es)
