@@ -1,5 +1,4 @@
 pub mod Heads
 pub mod Totals
 pub mod Takings
-pub mod Found
 pub mod Answering

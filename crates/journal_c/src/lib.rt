@@ -1,5 +1,4 @@
 // The journal for C and Rust: numbers and lent slices only. A call gives 0, or the number of its refusal.
-mod places;
 
 ghost use mathlib.Core.Path.{_≡_};
 ghost use mathlib.Core.List.{_++_};
@@ -14,6 +13,8 @@ ghost use Rattle.journal_c.specs.Checksum.{checksumCall};
 ghost use Rattle.journal_c.specs.Totals.{totalsCall};
 ghost use Rattle.journal_c.specs.Writing.{putTaken, imageTaken};
 
+mod answers;
+mod places;
 mod queries;
 mod record;
 mod recovery;
