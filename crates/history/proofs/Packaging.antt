@@ -1,7 +1,7 @@
 -- Both packagings keep what holds between the calls of a history: the ring's bytes read as the plain lists, and the image is the list's. Assumes nothing.
 use mathlib.Core.Path.{_≡_, refl, sym, ap, ap₂, _∙_, subst}
 use mathlib.Core.List.{List, [], _++_, append-assoc, append-nil}
-use mathlib.Core.Option.{some}
+use mathlib.Core.Option.{some, Option·some-injective}
 use Prim.Native.Nat.{ℕ, _+_, _-_, _*_, _≤_}
 use native.Mathlib.Nat.{sub-zero}
 use native.Mathlib.Omega.{arith}
@@ -10,6 +10,7 @@ use lib.Seq.{take-at, drop-at}
 use Rattle.refusals.specs.Outcome.{Outcome, gives, refuses, refusesBlock, bytesAfter}
 use Rattle.words.proofs.Slices.{drop-take}
 use Rattle.journal_entry.specs.Entry.{JournalEntry, SumJournalEntries, WeightJournalEntries, wires}
+use Rattle.journal_entry.proofs.Options.{nil-of-length}
 use Rattle.journal_entry.proofs.Reading.{length-wires, readExactly-wires}
 use Rattle.journal_ring.specs.Ring.{rotated, cyclicSlice}
 use Rattle.journal_ring.proofs.RingLaws.{take-front, drop-front}
@@ -25,22 +26,19 @@ use Rattle.journalist.proofs.PackageLaws.{FrozenTaken, MemoryTaken, frozen-take
 use Rattle.history.specs.Lists.{packagingFrozen, packagingInMemory}
 use Rattle.history.specs.Calls.{leaves, recordOf, imageIn}
 use Rattle.history.specs.History.{World, following}
-use Rattle.history.proofs.Counts.{weight-of, none-of}
+use Rattle.history.proofs.Counts.{weight-of}
 use Rattle.history.proofs.Images.{imageOf, image-whole, images-read, whole-more}
 use Rattle.history.proofs.Invariant.{Invariant}
 use Rattle.history.proofs.Steps.{frozen-sum, memory-sum}
 
-some-same : {A : Type 0} {a b : A} → some a ≡ some b → a ≡ b
-some-same e = cc
-
--- what is at the front of the output behind a packaging
-written-image : (es : List JournalEntry) (b : ℕ) (out : List ℕ) → Holds es b
-    → take (4096 * b) (marshallJournalEntries es b ++ drop (4096 * b) out) ≡ marshallJournalEntries es b
-written-image es b out h = take-at (marshallJournalEntries es b) (drop (4096 * b) out) (4096 * b) (length-image es b (h .room))
-
-image-same : (es : List JournalEntry) (b added : ℕ) (bytes : List ℕ) (h : Holds es b) → added ≡ b → bytes ≡ marshallJournalEntries es b
-    → imageOf es b h ≡ record { bytes = bytes; added = added }
-image-same es b added bytes h p q = λ i. record { bytes = sym q i; added = sym p i }
+-- the image that a packaging hands out, from the front of its output
+handed-image : (es : List JournalEntry) (b written : ℕ) (image out : List ℕ) (h : Holds es b) → image ≡ marshallJournalEntries es b
+    → imageOf es b h ≡ record { bytes = take (4096 * b) (image ++ drop (4096 * b) out); added = written + b - written }
+handed-image es b written image out h is =
+    let front : marshallJournalEntries es b ≡ take (4096 * b) (image ++ drop (4096 * b) out) =
+    rw is (sym (take-at (marshallJournalEntries es b) (drop (4096 * b) out) (4096 * b) (length-image es b (h .room)))) in
+    let more : b ≡ written + b - written = omega arith in
+    λ i. record { bytes = front i; added = more i }
 
 module _ (n : ℕ) (w : World) (i : Invariant n w) where
   abbrev j : Journalist
@@ -86,7 +84,7 @@ module _ (n : ℕ) (w : World) (i : Invariant n w) where
     frozen-is : Batch (j .frozen) (j .held) (frozenRead j (w .ring)) (frozenImage j (w .ring)) frozen
     frozen-is =
         frozen-batch j (w .ring) out t λ es b.
-        subst (Batch (j .frozen) (j .held) (frozenRead j (w .ring)) (frozenImage j (w .ring))) (some-same (sym (b .reads-as) ∙ frozen-reads)) b
+        subst (Batch (j .frozen) (j .held) (frozenRead j (w .ring)) (frozenImage j (w .ring))) (Option·some-injective _ _ (sym (b .reads-as) ∙ frozen-reads)) b
 
     frozen-packaged : Invariant n
         (following w packagingFrozen
@@ -94,10 +92,7 @@ module _ (n : ℕ) (w : World) (i : Invariant n w) where
     unfolding packagedFrozenRecord wires
     frozen-packaged =
         let a = i .after in
-        let added : j .written + j .held - j .written ≡ j .held = omega arith in
-        let bytes : take (4096 * j .held) (frozenImage j (w .ring) ++ drop (4096 * j .held) out) ≡ marshallJournalEntries frozen (j .held) =
-        rw (frozen-is .image-is) (written-image frozen (j .held) out (frozen-is .holds)) in
-        let same = image-same frozen (j .held) _ _ (frozen-is .holds) added bytes in
+        let same = handed-image frozen (j .held) (j .written) (frozenImage j (w .ring)) out (frozen-is .holds) (frozen-is .image-is) in
         let long : 0 + SumJournalEntries memory ≡ SumJournalEntries memory = omega arith in
         let k = facts j (i .hangs) .counts in
         rw (← same)
@@ -144,12 +139,12 @@ module _ (n : ℕ) (w : World) (i : Invariant n w) where
     weight = weight-of (j .memory) memory (i .after .memory-counts)
 
     no-frozen : frozen ≡ []
-    no-frozen = none-of frozen (sym (ap (λ l. l .entries) (i .after .frozen-counts)) ∙ t .no-frozen)
+    no-frozen = nil-of-length frozen (sym (ap (λ l. l .entries) (i .after .frozen-counts)) ∙ t .no-frozen)
 
     memory-is : Batch (j .memory) (memoryBlocks j) (memoryRead j (w .ring)) (memoryImage j (w .ring)) memory
     memory-is =
         memory-batch j (w .ring) out t λ es b.
-        subst (Batch (j .memory) (memoryBlocks j) (memoryRead j (w .ring)) (memoryImage j (w .ring))) (some-same (sym (b .reads-as) ∙ memory-reads)) b
+        subst (Batch (j .memory) (memoryBlocks j) (memoryRead j (w .ring)) (memoryImage j (w .ring))) (Option·some-injective _ _ (sym (b .reads-as) ∙ memory-reads)) b
 
     memory-packaged : Invariant n
         (following w packagingInMemory
@@ -158,10 +153,7 @@ module _ (n : ℕ) (w : World) (i : Invariant n w) where
     memory-packaged =
         let a = i .after in
         let b = memoryBlocks j in
-        let added : j .written + b - j .written ≡ b = omega arith in
-        let bytes : take (4096 * b) (memoryImage j (w .ring) ++ drop (4096 * b) out) ≡ marshallJournalEntries memory b =
-        rw (memory-is .image-is) (written-image memory b out (memory-is .holds)) in
-        let same = image-same memory b _ _ (memory-is .holds) added bytes in
+        let same = handed-image memory b (j .written) (memoryImage j (w .ring)) out (memory-is .holds) (memory-is .image-is) in
         rw (← same)
         (record {
           after = record {

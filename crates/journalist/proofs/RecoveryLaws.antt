@@ -12,10 +12,8 @@ use lib.ListN.{length}
 use Rattle.refusals.specs.Outcome.{Outcome, gives, require_else_then_, given_else_then_}
 use Rattle.refusals.proofs.Rows.{Row, Passes, Exactly, exactly, into-exactly}
 use Rattle.refusals.proofs.Tests.{both, impossible}
-use Rattle.replay_cursor.proofs.Counts.{counts-true}
+use Rattle.replay_cursor.proofs.Counts.{counts-entries}
 use Rattle.journal_entry.specs.Entry.{JournalEntry, SumJournalEntries}
-use Rattle.journal_entry.proofs.Options.{nil-of-length}
-use Rattle.journal_entry.proofs.Reading.{eight-each}
 use Rattle.journal_range.specs.Range.{parseJournalRange}
 use Rattle.journalist.specs.declared.Journalist.{Journalist}
 use Rattle.journalist.specs.declared.Side.the-variants.{Blocks}
@@ -179,12 +177,11 @@ module _ (j : Journalist) (front back d : List ℕ) where
       let (t, is) = load-taken k e in
       let f = facts j (t .sides .hangs) in
       let es = sidesEntries in
-      let none-weighs : length es ≡ 0 → SumJournalEntries es ≡ 0 = λ z. ap SumJournalEntries (nil-of-length es z) in
       ap hangsTogether (sym is)
       ∙ together (loadedRecord j es)
       (record {
         counts = f .counts;
-        replay = counts-true (length es) (SumJournalEntries es) (eight-each es) none-weighs;
+        replay = counts-entries es;
         front = side-none (j .blocks);
         back = side-none (j .blocks);
       })
