@@ -10,6 +10,33 @@ pub mod raw {
         pub fn journal_range(front: *const u8, front_len: usize, back: *const u8, back_len: usize, totals: *mut u64, totals_len: usize) -> u64;
         pub fn journal_put_entry(ring: *mut u8, ring_len: usize, start: usize, pending: usize, clone: bool, first: *const u8, first_len: usize, second: *const u8, second_len: usize) -> bool;
         pub fn journal_marshall(a: *const u8, a_len: usize, b: *const u8, b_len: usize, at: usize, n: usize, entries: u32, blocks: u32, out: *mut u8, out_len: usize) -> bool;
+        pub fn journal_place_of_block(n: u64, block: u64, answer: *mut u64, answer_len: usize) -> u64;
+        pub fn journal_place_front(n: u64, start: u64, len: u64, answer: *mut u64, answer_len: usize) -> u64;
+        pub fn journal_place_back(n: u64, start: u64, len: u64, answer: *mut u64, answer_len: usize) -> u64;
+        pub fn journal_place_next_start(n: u64, start: u64, len: u64, answer: *mut u64, answer_len: usize) -> u64;
+        pub fn journal_place_contained(n: u64, a_start: u64, a_len: u64, b_start: u64, b_len: u64, answer: *mut u64, answer_len: usize) -> u64;
+        pub fn journal_place_overlap(n: u64, a_start: u64, a_len: u64, b_start: u64, b_len: u64, answer: *mut u64, answer_len: usize) -> u64;
+        pub fn journal_place_location(n: u64, start: u64, len: u64, answer: *mut u64, answer_len: usize) -> u64;
+        pub fn journal_place_interval(n: u64, addr: u64, len: u64, answer: *mut u64, answer_len: usize) -> u64;
+        pub fn journal_has_frozen(words: *const u64, words_len: usize, answer: *mut u64, answer_len: usize) -> u64;
+        pub fn journal_has_in_memory(words: *const u64, words_len: usize, answer: *mut u64, answer_len: usize) -> u64;
+        pub fn journal_get_written(words: *const u64, words_len: usize, answer: *mut u64, answer_len: usize) -> u64;
+        pub fn journal_is_replay_empty(words: *const u64, words_len: usize, answer: *mut u64, answer_len: usize) -> u64;
+        pub fn journal_has_front(words: *const u64, words_len: usize, answer: *mut u64, answer_len: usize) -> u64;
+        pub fn journal_has_back(words: *const u64, words_len: usize, answer: *mut u64, answer_len: usize) -> u64;
+        pub fn journal_top(words: *const u64, words_len: usize, replay: *const u8, replay_len: usize, top: *mut u64, top_len: usize) -> u64;
+        pub fn journal_open(words: *mut u64, words_len: usize, n: u64, r: u64) -> u64;
+        pub fn journal_append_insert(words: *mut u64, words_len: usize, ring: *mut u8, ring_len: usize, key: *const u8, key_len: usize, value: *const u8, value_len: usize) -> u64;
+        pub fn journal_append_clone(words: *mut u64, words_len: usize, ring: *mut u8, ring_len: usize, from: *const u8, from_len: usize, to: *const u8, to_len: usize) -> u64;
+        pub fn journal_freeze(words: *mut u64, words_len: usize) -> u64;
+        pub fn journal_set_written(words: *mut u64, words_len: usize, len: u64) -> u64;
+        pub fn journal_update_written(words: *mut u64, words_len: usize, len: u64) -> u64;
+        pub fn journal_package_frozen(words: *mut u64, words_len: usize, ring: *const u8, ring_len: usize, out: *mut u8, out_len: usize) -> u64;
+        pub fn journal_package_in_memory(words: *mut u64, words_len: usize, ring: *const u8, ring_len: usize, out: *mut u8, out_len: usize) -> u64;
+        pub fn journal_set_front(words: *mut u64, words_len: usize, payload: *const u8, payload_len: usize, front: *mut u8, front_len: usize) -> u64;
+        pub fn journal_set_back(words: *mut u64, words_len: usize, payload: *const u8, payload_len: usize, back: *mut u8, back_len: usize) -> u64;
+        pub fn journal_load(words: *mut u64, words_len: usize, front: *const u8, front_len: usize, back: *const u8, back_len: usize, replay: *mut u8, replay_len: usize) -> u64;
+        pub fn journal_pop(words: *mut u64, words_len: usize, replay: *const u8, replay_len: usize) -> u64;
     }
 }
 
@@ -87,4 +114,70 @@ pub fn marshall(
             out.len(),
         )
     }
+}
+
+pub fn place_of_block(n: u64, block: u64, answer: &mut [u64]) -> u64 {
+    unsafe { raw::journal_place_of_block(n, block, answer.as_mut_ptr(), answer.len()) }
+}
+
+pub fn place_front(n: u64, start: u64, len: u64, answer: &mut [u64]) -> u64 {
+    unsafe { raw::journal_place_front(n, start, len, answer.as_mut_ptr(), answer.len()) }
+}
+
+pub fn place_back(n: u64, start: u64, len: u64, answer: &mut [u64]) -> u64 {
+    unsafe { raw::journal_place_back(n, start, len, answer.as_mut_ptr(), answer.len()) }
+}
+
+pub fn place_next_start(n: u64, start: u64, len: u64, answer: &mut [u64]) -> u64 {
+    unsafe { raw::journal_place_next_start(n, start, len, answer.as_mut_ptr(), answer.len()) }
+}
+
+pub fn place_contained(
+    n: u64,
+    a_start: u64,
+    a_len: u64,
+    b_start: u64,
+    b_len: u64,
+    answer: &mut [u64],
+) -> u64 {
+    unsafe {
+        raw::journal_place_contained(
+            n,
+            a_start,
+            a_len,
+            b_start,
+            b_len,
+            answer.as_mut_ptr(),
+            answer.len(),
+        )
+    }
+}
+
+pub fn place_overlap(
+    n: u64,
+    a_start: u64,
+    a_len: u64,
+    b_start: u64,
+    b_len: u64,
+    answer: &mut [u64],
+) -> u64 {
+    unsafe {
+        raw::journal_place_overlap(
+            n,
+            a_start,
+            a_len,
+            b_start,
+            b_len,
+            answer.as_mut_ptr(),
+            answer.len(),
+        )
+    }
+}
+
+pub fn place_location(n: u64, start: u64, len: u64, answer: &mut [u64]) -> u64 {
+    unsafe { raw::journal_place_location(n, start, len, answer.as_mut_ptr(), answer.len()) }
+}
+
+pub fn place_interval(n: u64, addr: u64, len: u64, answer: &mut [u64]) -> u64 {
+    unsafe { raw::journal_place_interval(n, addr, len, answer.as_mut_ptr(), answer.len()) }
 }

@@ -45,11 +45,19 @@ impl Guarded {
 
     /// Holds a copy of `s` instead. Pages are mapped anew only where there are too few.
     pub fn hold(&mut self, s: &[u8]) {
-        if s.len() > self.open {
-            *self = Guarded::new(s.len());
+        self.hold_behind([], s);
+    }
+
+    /// The same with `before` in front of the copy.
+    pub fn hold_behind<const N: usize>(&mut self, before: [u8; N], s: &[u8]) {
+        let len = N + s.len();
+        if len > self.open {
+            *self = Guarded::new(len);
         }
-        self.len = s.len();
-        self.bytes().copy_from_slice(s);
+        self.len = len;
+        let (front, behind) = self.bytes().split_at_mut(N);
+        front.copy_from_slice(&before);
+        behind.copy_from_slice(s);
     }
 
     pub fn bytes(&mut self) -> &mut [u8] {

@@ -1,4 +1,13 @@
 //! A small generator (splitmix64): a run is the same everywhere.
+
+/// How many times as long random tests run: the number in `JOURNAL_TESTS_TIMES`, or one.
+pub fn times() -> usize {
+    match std::env::var("JOURNAL_TESTS_TIMES") {
+        Ok(n) => n.parse().expect("JOURNAL_TESTS_TIMES is a number"),
+        Err(_) => 1,
+    }
+}
+
 pub struct Random(pub u64);
 
 impl Random {

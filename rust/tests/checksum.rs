@@ -1,4 +1,5 @@
 //! The checksum's calls against RFC 3720's vectors and the model, bit by bit.
+use journal_tests::memory::BEFORE;
 use journal_tests::model::block::{self, HEAD, PAYLOAD};
 use journal_tests::{calls, guarded::Guarded, model::crc, random::Random};
 use std::ops::RangeInclusive;
@@ -18,7 +19,6 @@ fn same_crc(s: &[u8], call: impl Fn(&[u8]) -> u32) -> bool {
 /// Whether `call` answers as the model does, and leaves the same in an `out` of `room` bytes and in
 /// the bytes before it. Behind `out` is the guard.
 fn same_head(s: &[u8], room: usize, call: impl Fn(&[u8], &mut [u8]) -> u64) -> bool {
-    const BEFORE: usize = 16;
     let mut got = Guarded::new(BEFORE + room);
     got.bytes().fill(0xA5);
     let mut wanted = got.bytes().to_vec();

@@ -1,6 +1,7 @@
 //! Strip and the reading of a range against the model: whole, torn, and damaged at every kind of
 //! place. The model is held to the document's cases, and to what was written.
 use journal_tests::guarded::Guarded;
+use journal_tests::memory::{Memory, BEFORE};
 use journal_tests::model::block::{self, BLOCK, HEAD, PAYLOAD};
 use journal_tests::model::writing::{self, Entry};
 use journal_tests::model::{crc, reading};
@@ -8,26 +9,10 @@ use journal_tests::{calls, random::Random};
 use std::collections::BTreeMap;
 use std::fmt::Display;
 
-/// What calls are lent: bytes to read, in two parts or in the first alone, and bytes or words to fill.
-struct Memory {
-    read: [Guarded; 2],
-    filled: Guarded,
-}
-
-impl Memory {
-    fn new() -> Self {
-        let [a, b, filled] = [0; 3].map(Guarded::new);
-        Memory { read: [a, b], filled }
-    }
-}
-
-/// So many bytes before those that a call fills are compared too. Behind them is the guard.
-const BEFORE: usize = 16;
-
 /// The answer, if `call` gives the model's and leaves the same in every byte of an `out` with this
 /// room, nothing changed by a refusal, and the image as it was. (A wrong call may write there.)
 fn same_strip(
-    Memory { read: [lent, _], filled }: &mut Memory,
+    Memory { read: [lent, _], written, .. }: &mut Memory,
     image: &[u8],
     room: usize,
     call: impl Fn(&mut [u8], &mut [u8]) -> u64,
@@ -35,18 +20,18 @@ fn same_strip(
     let before = vec![0xA5; BEFORE + room];
     let mut wanted = before.clone();
     let right = block::strip(image, &mut wanted[BEFORE..]);
-    filled.hold(&before);
+    written.hold(&before);
     lent.hold(image);
-    let answer = call(lent.bytes(), &mut filled.bytes()[BEFORE..]);
-    let same = answer == right && filled.bytes() == wanted && lent.bytes() == image;
-    let unchanged = filled.bytes() == before;
+    let answer = call(lent.bytes(), &mut written.bytes()[BEFORE..]);
+    let same = answer == right && written.bytes() == wanted && lent.bytes() == image;
+    let unchanged = written.bytes() == before;
     (same && (answer == 0 || unchanged)).then_some(answer)
 }
 
 /// As `same_strip`, for the range that front and back have where `joined` is split, and for `totals`
 /// with this room.
 fn same_range(
-    Memory { read: [lent_front, lent_back], filled }: &mut Memory,
+    Memory { read: [lent_front, lent_back], written, .. }: &mut Memory,
     joined: &[u8],
     split: usize,
     room: usize,
@@ -56,16 +41,16 @@ fn same_range(
     let before = vec![0xA5A5_A5A5_A5A5_A5A5; BEFORE / 8 + room];
     let mut wanted = before.clone();
     let right = reading::range(front, back, &mut wanted[BEFORE / 8..]);
-    filled.hold(&vec![0xA5; 8 * before.len()]);
+    written.hold(&vec![0xA5; 8 * before.len()]);
     lent_front.hold(front);
     lent_back.hold(back);
-    let totals = &mut filled.words()[BEFORE / 8..];
+    let totals = &mut written.words()[BEFORE / 8..];
     let answer = call(lent_front.bytes(), lent_back.bytes(), totals);
     let same = answer == right
-        && filled.words() == wanted
+        && written.words() == wanted
         && lent_front.bytes() == front
         && lent_back.bytes() == back;
-    let unchanged = filled.words() == before;
+    let unchanged = written.words() == before;
     (same && (answer == 0 || unchanged)).then_some(answer)
 }
 
@@ -77,7 +62,7 @@ struct Tally {
 
 impl Tally {
     fn new() -> Self {
-        Tally { memory: Memory::new(), answers: BTreeMap::new() }
+        Tally { memory: Memory::default(), answers: BTreeMap::new() }
     }
 
     fn strip(&mut self, image: &[u8], room: usize, what: impl Display) -> u64 {
@@ -561,7 +546,7 @@ fn random_images() {
 /// and in what is refused. They find a wrong answer.
 #[test]
 fn a_wrong_byte_is_found() {
-    let memory = &mut Memory::new();
+    let memory = &mut Memory::default();
     let payload = writing::batch(&of_weight(3_000), 0);
     let image = writing::image(&payload);
     for room in [PAYLOAD - 1, PAYLOAD, PAYLOAD + 1] {

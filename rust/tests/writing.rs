@@ -1,32 +1,16 @@
 //! The two writers below the calls, and the model's, against slow ones: an entry into the ring byte
 //! by byte, and the image of a batch as the tests' writer makes it. What is written is read again.
-use journal_tests::guarded::Guarded;
+use journal_tests::memory::{Memory, BEFORE};
 use journal_tests::model::block::{self, BLOCK, HEAD, PAYLOAD};
 use journal_tests::model::writing::{self, Entry};
 use journal_tests::model::{crc, reading};
 use journal_tests::{calls, random::Random};
 use std::collections::BTreeMap;
 
-/// What calls are lent: bytes to read, in two parts, and bytes to write.
-struct Memory {
-    read: [Guarded; 2],
-    written: Guarded,
-}
-
-impl Memory {
-    fn new() -> Self {
-        let [a, b, written] = [0; 3].map(Guarded::new);
-        Memory { read: [a, b], written }
-    }
-}
-
-/// So many bytes before those that a call writes are compared too. Behind them is the guard.
-const BEFORE: usize = 16;
-
 /// Whether `call` answers true and writes what is wanted over the start of `out`, or answers false
 /// where nothing is, and leaves every other byte that it is lent. (A wrong call may write there.)
 fn same(
-    Memory { read: [lent_a, lent_b], written }: &mut Memory,
+    Memory { read: [lent_a, lent_b], written, .. }: &mut Memory,
     [a, b]: [&[u8]; 2],
     out: &[u8],
     wanted: Option<&[u8]>,
@@ -60,7 +44,7 @@ struct Tally {
 
 impl Tally {
     fn new() -> Self {
-        Tally { memory: Memory::new(), calls: 0, edges: BTreeMap::new() }
+        Tally { memory: Memory::default(), calls: 0, edges: BTreeMap::new() }
     }
 
     /// Whether all of a call's conditions hold.
@@ -491,7 +475,7 @@ fn the_largest() {
 /// and in what is refused. It finds a wrong answer.
 #[test]
 fn a_wrong_byte_is_found() {
-    let memory = &mut Memory::new();
+    let memory = &mut Memory::default();
     let random = &mut Random(11);
     let bytes = random.bytes(600);
     let (a, b) = bytes.split_at(200);

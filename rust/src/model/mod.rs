@@ -2,5 +2,8 @@
 //! the Rattle crates.
 pub mod block;
 pub mod crc;
+pub mod entries;
+pub mod journalist;
+pub mod places;
 pub mod reading;
 pub mod writing;

@@ -89,6 +89,7 @@ pub fn marshall(
 }
 
 /// An insert (key, value) or a clone (from, to).
+#[derive(Clone, Debug, PartialEq)]
 pub struct Entry {
     pub is_clone: bool,
     pub first: Vec<u8>,

@@ -1,0 +1,40 @@
+-- `journal_c::places::answer_two` meets its contract: two words stored, or no room for them.
+-- Assumes nothing.
+use mathlib.Core.List.{[], _∷_}
+use Rattle.journal_c.proofs.Answering.{no-room, two}
+use borrow.Author.Needs.{needs}
+use Rattle.journal_c.proofs.places.answer_two.Statement.{statement}
+use Rattle.journal_c.proofs.places.answer_two.Tie as tie
+
+number-requires : tie.Need-number-requires
+number-requires c κs = search needs
+
+returns : tie.Need-returns
+returns c =
+    let start = c .before .before .before in
+    no-room (start .args .v ∷ start .args .w ∷ []) (start .args .answer .now) _ (c .before .if1 .taken) (c .number .ensures)
+
+slice-write-answer : tie.Need-slice-write-answer
+slice-write-answer c = search needs
+
+slice-write-answer-2 : tie.Need-slice-write-answer-2
+slice-write-answer-2 c = search needs
+
+same-length : tie.Need-same-length
+same-length c = search needs
+
+returns-2 : tie.Need-returns-2
+returns-2 c =
+    let start = c .before .before in
+    two (start .args .v) (start .args .w) (start .args .answer .now) (c .if1 .left)
+
+pub answer-two-spec : {M : Type 1} → statement M
+answer-two-spec =
+    tie.close
+    (tie.spec
+    number-requires
+    returns
+    slice-write-answer
+    slice-write-answer-2
+    same-length
+    returns-2)

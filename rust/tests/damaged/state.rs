@@ -1,0 +1,231 @@
+//! Random records that hang together, with the buffers that belong to them, and calls on them.
+use journal_tests::call::{Call, Call::*, QUERIES};
+use journal_tests::memory::Lent;
+use journal_tests::model::block::{BLOCK, PAYLOAD};
+use journal_tests::model::journalist;
+use journal_tests::model::writing::{self, Entry};
+use journal_tests::random::Random;
+
+/// Longer buffers are not lent: a record may well count more bytes than there is memory.
+const LONGEST: u128 = 1 << 17;
+
+#[derive(Clone)]
+pub struct State {
+    pub words: Vec<u64>,
+    pub ring: Vec<u8>,
+    pub front: Vec<u8>,
+    pub back: Vec<u8>,
+    pub replay: Vec<u8>,
+    pub image: Vec<u8>,
+}
+
+/// No entries, some, or such as fill one block or two, or nearly so.
+fn list(random: &mut Random) -> Vec<Entry> {
+    match random.below(6) {
+        0 | 1 => vec![],
+        2 => {
+            let blocks = 1 + random.below(2);
+            let less = random.below(3);
+            writing::weighing(random, PAYLOAD * blocks - 8 - less)
+        }
+        _ => {
+            let most = random.one_of(&[0, 3, 40, 400, 1_024]);
+            (0..1 + random.below(6)).map(|_| Entry::random(random, most)).collect()
+        }
+    }
+}
+
+fn forms(list: &[Entry]) -> Vec<u8> {
+    list.iter().flat_map(Entry::wire_form).collect()
+}
+
+/// The blocks that a batch of the list needs.
+fn blocks(list: &[Entry]) -> usize {
+    if list.is_empty() {
+        0
+    } else {
+        (8 + forms(list).len()).div_ceil(PAYLOAD)
+    }
+}
+
+impl State {
+    pub fn new(random: &mut Random) -> Self {
+        // the most of each thing: none, in one state of twelve
+        let most = usize::from(random.below(12) > 0);
+        let [frozen, memory, left] =
+            [(); 3].map(|()| if most == 0 { vec![] } else { list(random) });
+        let held = blocks(&frozen) + random.one_of(&[0, 0, 0, most]);
+        let written = random.below(2 * most + 1);
+        let used = (written + held + blocks(&memory)).max(1);
+        let n = random.one_of(&[used, used, used + 1, used + 4, 1_024]);
+        let written = written + if n == 1_024 { random.one_of(&[0, n - used]) } else { 0 };
+
+        let pending = [forms(&frozen), forms(&memory)].concat();
+        let r = pending.len() + random.one_of(&[0, 1, 8, 100, 2_000]);
+        let mut ring = [&pending[..], &random.bytes(r - pending.len())].concat();
+        let start = if r == 0 { 0 } else { random.below(r) };
+        ring.rotate_right(start);
+
+        let place = random.one_of(&[0, 1, 100]);
+        let forms_left = forms(&left);
+        let behind = random.one_of(&[0, 0, 9]);
+        let replay = [random.bytes(place), forms_left.clone(), random.bytes(behind)].concat();
+
+        let mut range = vec![];
+        for _ in 0..random.below(2 * most + 1) {
+            let batch = writing::batch(&list(random), random.below(2));
+            if range.len() + batch.len() <= 2 * n * PAYLOAD {
+                range.extend(batch);
+            }
+        }
+        let all = range.len() / PAYLOAD;
+        let least = all.saturating_sub(n);
+        let split = least + random.below(all.min(n) - least + 1);
+        let (front, back) = range.split_at(split * PAYLOAD);
+        let mut side = |s: &[u8]| {
+            let present = !s.is_empty() || random.below(3) < most;
+            [usize::from(present), s.len() / PAYLOAD]
+        };
+        let [front_words, back_words] = [side(front), side(back)];
+
+        let counts = |list: &[Entry]| [list.len(), forms(list).len()];
+        let mut words: Vec<u64> = [
+            &[1, n, r, start][..],
+            &counts(&frozen),
+            &counts(&memory),
+            &[written, held, place, forms_left.len(), left.len()],
+            &front_words,
+            &back_words,
+        ]
+        .concat()
+        .into_iter()
+        .map(|n| n as u64)
+        .collect();
+        let conditions = journalist::conditions(&words).unwrap();
+        assert!(conditions.iter().all(|(_, a, b)| a <= b), "{words:?}");
+        words.extend((0..random.below(3)).map(|_| random.word()));
+        let image = writing::image(&range);
+        State { words, ring, front: front.into(), back: back.into(), replay, image }
+    }
+
+    /// Makes the buffers as long as the words say, where that is not too long.
+    pub fn fit(&mut self) {
+        let State { words, ring, front, back, replay, .. } = self;
+        let [n, front_blocks, back_blocks] = [2, 14, 16].map(|at| u128::from(words[at]));
+        let end = u128::from(words[10]) + u128::from(words[11]);
+        let payload = PAYLOAD as u128;
+        for (buffer, len) in [
+            (ring, n),
+            (front, payload * front_blocks),
+            (back, payload * back_blocks),
+            (replay, end),
+        ] {
+            if len <= LONGEST {
+                buffer.resize(len as usize, 0);
+            }
+        }
+    }
+
+    /// A call with right arguments, or with some at and past its limits.
+    pub fn call(&self, random: &mut Random) -> Call {
+        let [n, r, written] = [1, 2, 8].map(|at| self.words.get(at).copied().unwrap_or(7));
+        let len = |random: &mut Random| {
+            let next = written.wrapping_add(1);
+            random.one_of(&[0, 1, n, n.wrapping_add(1), written, next, u64::MAX])
+        };
+        match random.below(20) {
+            0 => {
+                let n = random.one_of(&[0, 1, n, 1_024, 1_025, u64::MAX]);
+                let r = random.one_of(&[0, 1, r, 8_388_608, 8_388_609, 1 << 32]);
+                Open { n, r }
+            }
+            1 => SetWritten(len(random)),
+            2 => UpdateWritten(len(random)),
+            3..9 => QUERIES[random.below(6)],
+            k => [
+                AppendInsert,
+                AppendClone,
+                Freeze,
+                PackageFrozen,
+                PackageInMemory,
+                Strip,
+                SetFront,
+                SetBack,
+                Load,
+                Top,
+                Pop,
+            ][k - 9],
+        }
+    }
+
+    /// What this call is lent: buffers just as long as they have to be.
+    pub fn lent(&self, call: Call, random: &mut Random) -> Lent {
+        let words = self.words.clone();
+        let [a, b, written] = match call {
+            AppendInsert | AppendClone => {
+                let [first, second] = self.entry(call == AppendClone, random);
+                [first, second, self.ring.clone()]
+            }
+            PackageFrozen | PackageInMemory => {
+                let blocks = match call {
+                    PackageFrozen => self.word(9),
+                    _ if self.word(6) == 0 => 0,
+                    _ => (self.word(7) + 8).div_ceil(PAYLOAD as u128),
+                };
+                let out = vec![0xA5; BLOCK * blocks.min(8) as usize];
+                [self.ring.clone(), vec![], out]
+            }
+            Strip => {
+                let room = self.image.len() / BLOCK * PAYLOAD;
+                [self.image.clone(), vec![], vec![0xA5; room]]
+            }
+            SetFront | SetBack => {
+                let n = self.word(1);
+                let blocks = random.one_of(&[0, 1, n, n + 1]).min(6);
+                let payload = random.bytes(PAYLOAD * blocks as usize);
+                let buffer = vec![0xA5; payload.len()];
+                [payload, vec![], buffer]
+            }
+            Load => {
+                let entries =
+                    journal_tests::model::entries::range(&[&self.front[..], &self.back].concat());
+                let room = entries.map_or(PAYLOAD, |list| forms(&list).len());
+                [self.front.clone(), self.back.clone(), vec![0xA5; room]]
+            }
+            Top | Pop => [self.replay.clone(), vec![], vec![]],
+            _ => Default::default(),
+        };
+        let answer = match call {
+            Top => vec![7; 5],
+            _ if QUERIES.contains(&call) => vec![7],
+            _ => vec![],
+        };
+        Lent { read: [a, b], written, words, answer }
+    }
+
+    fn word(&self, at: usize) -> u128 {
+        self.words.get(at).copied().unwrap_or(0).into()
+    }
+
+    /// The bytes of an entry: some, or as many as just fit or just don't, or over a limit.
+    fn entry(&self, is_clone: bool, random: &mut Random) -> [Vec<u8>; 2] {
+        let limit = if is_clone { 512 } else { 1_024 };
+        let payload = PAYLOAD as u128;
+        let weight = if self.word(6) == 0 { 8 } else { self.word(7) + 8 };
+        let used = payload * (self.word(8) + self.word(9)) + weight;
+        let region = (payload * self.word(1)).saturating_sub(used);
+        let ring = self.word(2).saturating_sub(self.word(5) + self.word(7));
+        let room = random.one_of(&[region, ring]) + random.below(2) as u128;
+        let [first, second] = match random.below(6) {
+            0 => [random.one_of(&[512, 513, 600]), 3],
+            1 => [3, limit + random.below(2)],
+            2 | 3 if (8..=8 + 512 + limit as u128).contains(&room) => {
+                let bytes = room as usize - 8;
+                let first = bytes.min(512);
+                [first, bytes - first]
+            }
+            _ => [random.below(20), random.below(20)],
+        };
+        [first, second].map(|n| random.bytes(n))
+    }
+}
