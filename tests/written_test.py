@@ -1,4 +1,4 @@
-"""Compares images that the exported writers made with the writer's, byte for byte, and has the reader read them.
+"""Compares images that the packagings made with the writer's, byte for byte, and has the reader read them.
 
 python3 tests/written_test.py PATH_TO_WRITTEN
 
@@ -47,19 +47,24 @@ class Stream:
         return kind, self.take(first), self.take(second)
 
     def image(self):
-        """The entries that an image was made of, its blocks, and the image."""
-        entries = [self.entry() for _ in range(self.word())]
-        blocks = self.word()
-        return entries, blocks, self.take(self.word())
+        """Which packaging made an image, the parts that its list was frozen in, and the image."""
+        packaging = self.take(1).decode('latin-1')
+        if packaging not in 'FM':
+            fail('a packaging %r before byte %d' % (packaging, self.place))
+        parts = [[self.entry() for _ in range(self.word())] for _ in range(self.word())]
+        return packaging, parts, self.take(self.word())
 
     def ended(self):
         return self.place == len(self.data)
 
 
+def needed(part):
+    """The blocks that a freeze, or a packaging from memory, adds for so many entries."""
+    return -(-(8 + writer.weight(part)) // 4064) if part else 0
+
+
 def compare(number, entries, blocks, image):
     what = 'image %d, of %d entries and %d blocks: ' % (number, len(entries), blocks)
-    if 8 + writer.weight(entries) > 4064 * blocks:
-        fail(what + 'the entries do not fit')
     wanted = writer.image(writer.batch(entries, blocks))
     if len(image) != len(wanted):
         fail(what + '%d bytes, the writer makes %d' % (len(image), len(wanted)))
@@ -87,14 +92,18 @@ def main():
     stream = Stream(ended.stdout)
     seen = collections.Counter()
     while not stream.ended():
-        entries, blocks, image = stream.image()
+        packaging, parts, image = stream.image()
+        entries = [entry for part in parts for entry in part]
+        blocks = sum(needed(part) for part in parts)
         compare(seen['images'], entries, blocks, image)
         left = 4064 * blocks - 8 - writer.weight(entries)
         seen['images'] += 1
         seen['blocks'] += blocks
         seen['inserts'] += sum(kind == 'I' for kind, _, _ in entries)
         seen['clones'] += sum(kind == 'C' for kind, _, _ in entries)
-        seen['without entries'] += not entries
+        seen['from memory'] += packaging == 'M'
+        seen['frozen'] += packaging == 'F' and len(parts) == 1
+        seen['frozen in parts'] += packaging == 'F' and len(parts) > 1
         seen['full to the last byte'] += left == 0
         seen['with a block of zeros'] += left >= 4064
         seen['over 61,440 bytes'] += len(image) > reader.MOST_INPUT

@@ -1,6 +1,7 @@
-//! A call on the record, or strip, as a value: it is made of the library or of the model.
-use crate::memory::Slices;
-use crate::model::{block, journalist};
+//! A call on the record, or strip, as a value: it is made of the library, of the model or of the plain
+//! Rust implementation.
+use crate::memory::{Lent, Memory, Slices};
+use crate::model::{block, journalist, plain};
 use crate::{calls, record};
 
 #[derive(Clone, Copy, Debug, PartialEq, Eq, PartialOrd, Ord)]
@@ -81,6 +82,10 @@ impl Call {
         made!(self, lent, journalist, block::strip)
     }
 
+    pub fn of_plain(self, lent: Slices) -> u64 {
+        made!(self, lent, plain, plain::strip)
+    }
+
     /// The numbers that it may refuse with, in the order of its tests. (Nothing pending forbids to
     /// package what is frozen. Where the document's row has no 9, it is given last, for words or an
     /// answer that are too short.)
@@ -107,4 +112,33 @@ impl Call {
         let whole = format!("{self:?}");
         whole.split([' ', '(']).next().unwrap().into()
     }
+}
+
+/// How a call may be made, as `Call::of_library`.
+pub type Made<'a> = &'a dyn Fn(Call, Slices) -> u64;
+
+/// The model's answer, if each of these ways gives it and leaves the same in all that it is lent.
+pub fn compared(
+    memory: &mut Memory,
+    call: Call,
+    lent: &Lent,
+    ways: &[Made],
+) -> Result<u64, String> {
+    let mut wanted = lent.clone();
+    let right = call.of_model(wanted.slices());
+    assert!(right == 0 || wanted == *lent, "{call:?}: the model's refusal changes something");
+    for (k, way) in ways.iter().enumerate() {
+        memory.hold(lent);
+        let code = way(call, memory.slices());
+        let different = memory.different(&wanted);
+        if code != right || !different.is_empty() {
+            let Lent { read: [a, b], written, words, answer } = lent;
+            let lens = [a.len(), b.len(), written.len(), answer.len()];
+            return Err(format!(
+                "{call:?}, way {k}, gives {code} for {right}, {different:?} differ: \
+                 {words:?}, {lens:?}"
+            ));
+        }
+    }
+    Ok(right)
 }

@@ -8,8 +8,6 @@ pub mod raw {
         pub fn journal_checksum(s: *const u8, s_len: usize, out: *mut u8, out_len: usize) -> u64;
         pub fn journal_strip(image: *const u8, image_len: usize, out: *mut u8, out_len: usize) -> u64;
         pub fn journal_range(front: *const u8, front_len: usize, back: *const u8, back_len: usize, totals: *mut u64, totals_len: usize) -> u64;
-        pub fn journal_put_entry(ring: *mut u8, ring_len: usize, start: usize, pending: usize, clone: bool, first: *const u8, first_len: usize, second: *const u8, second_len: usize) -> bool;
-        pub fn journal_marshall(a: *const u8, a_len: usize, b: *const u8, b_len: usize, at: usize, n: usize, entries: u32, blocks: u32, out: *mut u8, out_len: usize) -> bool;
         pub fn journal_place_of_block(n: u64, block: u64, answer: *mut u64, answer_len: usize) -> u64;
         pub fn journal_place_front(n: u64, start: u64, len: u64, answer: *mut u64, answer_len: usize) -> u64;
         pub fn journal_place_back(n: u64, start: u64, len: u64, answer: *mut u64, answer_len: usize) -> u64;
@@ -64,54 +62,6 @@ pub fn range(front: &[u8], back: &[u8], totals: &mut [u64]) -> u64 {
             back.len(),
             totals.as_mut_ptr(),
             totals.len(),
-        )
-    }
-}
-
-pub fn put_entry(
-    ring: &mut [u8],
-    start: usize,
-    pending: usize,
-    clone: bool,
-    first: &[u8],
-    second: &[u8],
-) -> bool {
-    unsafe {
-        raw::journal_put_entry(
-            ring.as_mut_ptr(),
-            ring.len(),
-            start,
-            pending,
-            clone,
-            first.as_ptr(),
-            first.len(),
-            second.as_ptr(),
-            second.len(),
-        )
-    }
-}
-
-pub fn marshall(
-    a: &[u8],
-    b: &[u8],
-    at: usize,
-    n: usize,
-    entries: u32,
-    blocks: u32,
-    out: &mut [u8],
-) -> bool {
-    unsafe {
-        raw::journal_marshall(
-            a.as_ptr(),
-            a.len(),
-            b.as_ptr(),
-            b.len(),
-            at,
-            n,
-            entries,
-            blocks,
-            out.as_mut_ptr(),
-            out.len(),
         )
     }
 }

@@ -1,261 +1,201 @@
-//! The two writers below the calls, and the model's, against slow ones: an entry into the ring byte
-//! by byte, and the image of a batch as the tests' writer makes it. What is written is read again.
-use journal_tests::memory::{Memory, BEFORE};
-use journal_tests::model::block::{self, BLOCK, HEAD, PAYLOAD};
+//! Append and the packagings, of the library and of the plain Rust implementation, against the model:
+//! entries that wrap at every byte of a ring, lists that end around a block's end, and the largest.
+//! What is packaged is read again. A record is given as its words, so that any start can be had.
+use journal_tests::call::{compared, Call, Call::*};
+use journal_tests::memory::{Lent, Memory};
+use journal_tests::model::block::{BLOCK, HEAD, PAYLOAD};
 use journal_tests::model::writing::{self, Entry};
-use journal_tests::model::{crc, reading};
-use journal_tests::{calls, random::Random};
+use journal_tests::model::{crc, entries};
+use journal_tests::random::Random;
+use journal_tests::{calls, record};
 use std::collections::BTreeMap;
 
-/// Whether `call` answers true and writes what is wanted over the start of `out`, or answers false
-/// where nothing is, and leaves every other byte that it is lent. (A wrong call may write there.)
-fn same(
-    Memory { read: [lent_a, lent_b], written, .. }: &mut Memory,
-    [a, b]: [&[u8]; 2],
-    out: &[u8],
-    wanted: Option<&[u8]>,
-    call: impl Fn(&mut [u8], &mut [u8], &mut [u8]) -> bool,
-) -> bool {
-    const UNTOUCHED: [u8; BEFORE] = [0xA5; BEFORE];
-    written.hold(&[&UNTOUCHED, out].concat());
-    lent_a.hold(a);
-    lent_b.hold(b);
-    let answer = call(lent_a.bytes(), lent_b.bytes(), &mut written.bytes()[BEFORE..]);
-    let changed = wanted.unwrap_or_default();
-    let (before, after) = written.bytes().split_at(BEFORE);
-    answer == wanted.is_some()
-        && before == UNTOUCHED
-        && after[..changed.len()] == *changed
-        && after[changed.len()..] == out[changed.len()..]
-        && lent_a.bytes() == a
-        && lent_b.bytes() == b
-}
-
-/// A condition of a call: the first number is at most the second. Wide numbers don't overflow.
-type Condition = (&'static str, u128, u128);
-
-/// The calls that were made and compared, and how many of them one condition alone decided at its
-/// edge: true where it held exactly, false where it failed by one.
+/// How often each number was given.
+#[derive(Default)]
 struct Tally {
     memory: Memory,
-    calls: usize,
-    edges: BTreeMap<&'static str, [usize; 2]>,
+    given: BTreeMap<u64, usize>,
 }
 
 impl Tally {
-    fn new() -> Self {
-        Tally { memory: Memory::default(), calls: 0, edges: BTreeMap::new() }
+    /// What the call gives, and what it leaves of the written bytes.
+    fn call(&mut self, call: Call, lent: Lent) -> (u64, Lent) {
+        let ways = [&Call::of_plain as _, &Call::of_library as _];
+        let code = compared(&mut self.memory, call, &lent, &ways).unwrap_or_else(|e| panic!("{e}"));
+        *self.given.entry(code).or_default() += 1;
+        (code, self.memory.lent())
     }
 
-    /// Whether all of a call's conditions hold.
-    fn decided(&mut self, conditions: &[Condition]) -> bool {
-        self.calls += 1;
-        let fail = conditions.iter().filter(|(_, less, more)| less > more).count();
-        for &(name, less, more) in conditions {
-            if fail == 0 && less == more {
-                self.edges.entry(name).or_default()[0] += 1;
-            } else if fail == 1 && less == more + 1 {
-                self.edges.entry(name).or_default()[1] += 1;
-            }
-        }
-        fail == 0
+    /// Appends to a journal, if that is not refused.
+    fn append(&mut self, journal: &mut Journal, entry: &Entry) -> u64 {
+        let Entry { is_clone, first, second } = entry.clone();
+        let call = if is_clone { AppendClone } else { AppendInsert };
+        let Journal { words, ring } = std::mem::take(journal);
+        let lent = Lent { read: [first, second], written: ring, words, answer: vec![] };
+        let (code, Lent { words, written: ring, .. }) = self.call(call, lent);
+        *journal = Journal { words, ring };
+        code
     }
 
-    /// Puts an entry into the ring. (That pending is at most the ring's length follows from `room`.)
-    fn put(&mut self, ring: &mut [u8], start: usize, pending: usize, entry: &Entry) -> bool {
-        let Entry { is_clone, first, second } = entry;
-        let room = ring.len() as u128;
-        let accepted = self.decided(&[
-            ("start", start as u128 + 1, room),
-            ("first", first.len() as u128, 512),
-            ("second", second.len() as u128, if *is_clone { 512 } else { 1_024 }),
-            ("room", pending as u128 + entry.weight() as u128, room),
-        ]);
-        let wanted = accepted.then(|| {
-            let mut ring = ring.to_vec();
-            for (i, byte) in entry.wire_form().into_iter().enumerate() {
-                let at = (start + pending + i) % ring.len();
-                ring[at] = byte;
-            }
-            ring
-        });
-        for put_entry in [calls::put_entry, writing::put_entry] {
-            let call = |first: &mut [u8], second: &mut [u8], ring: &mut [u8]| {
-                put_entry(ring, start, pending, *is_clone, first, second)
-            };
-            assert!(
-                same(&mut self.memory, [first, second], ring, wanted.as_deref(), call),
-                "{} and {} bytes, clone {is_clone}, in a ring of {room}, {pending} from {start} on",
-                first.len(),
-                second.len()
-            );
+    /// Packages a list to an output with this room. An image reads as the entries.
+    fn package(&mut self, journal: &Journal, call: Call, room: usize, list: &[Entry]) -> u64 {
+        let Journal { words, ring } = journal.clone();
+        let read = [ring, vec![]];
+        let lent = Lent { read, written: vec![0xA5; room], words, answer: vec![] };
+        let (code, Lent { words, written: mut image, .. }) = self.call(call, lent);
+        if code == 0 {
+            let blocks = (words[8] - journal.words[8]) as usize;
+            image.truncate(BLOCK * blocks);
+            let mut payload = vec![0; PAYLOAD * blocks];
+            assert_eq!(calls::strip(&image, &mut payload), 0);
+            assert!(entries::range(&payload).is_some_and(|read| read == list), "other entries");
         }
-        if let Some(wanted) = wanted {
-            ring.copy_from_slice(&wanted);
-        }
-        accepted
+        code
     }
 
-    /// Marshalls a batch, whose bytes are those from `at` on of the two parts, to an `out` with this
-    /// room.
-    fn marshall(&mut self, batch: &Batch, [a, b]: [&[u8]; 2], at: usize, room: usize) -> bool {
-        let Batch { entries, blocks, n, ref image } = *batch;
-        let accepted = self.decided(&[
-            ("at", at as u128 + n as u128, (a.len() + b.len()) as u128),
-            ("blocks", n as u128 + 8, PAYLOAD as u128 * u128::from(blocks)),
-            ("out", BLOCK as u128 * u128::from(blocks), room as u128),
-        ]);
-        let wanted = accepted.then_some(&image[..]);
-        for marshall in [calls::marshall, writing::marshall] {
-            let call = |a: &mut [u8], b: &mut [u8], out: &mut [u8]| {
-                marshall(a, b, at, n, entries, blocks, out)
-            };
-            assert!(
-                same(&mut self.memory, [a, b], &vec![0xA5; room], wanted, call),
-                "{n} bytes from {at} of {} and {}, {entries} entries, {blocks} blocks, room {room}",
-                a.len(),
-                b.len()
-            );
-        }
-        accepted
-    }
-
-    /// There were so many calls, and each of these conditions alone decided some either way.
-    fn ends(self, edges: &[&str], at_least: usize) {
-        let Tally { calls, edges: seen, .. } = self;
-        for edge in edges {
-            let [held, failed] = seen.get(edge).copied().unwrap_or_default();
-            assert!(held > 0 && failed > 0, "{edge}: true {held}, false {failed}");
-        }
+    /// These were the numbers, and there were so many calls.
+    fn ends(&self, numbers: &[u64], at_least: usize) {
+        assert!(self.given.keys().eq(numbers), "{:?}", self.given);
+        let calls: usize = self.given.values().sum();
         assert!(calls >= at_least, "{calls} calls");
     }
 }
 
-/// What is marshalled: so many entries, blocks and bytes, and the image that the tests' writer makes
-/// of them, where they fit.
-struct Batch {
-    entries: u32,
-    blocks: u32,
-    n: usize,
-    image: Vec<u8>,
+/// A record and its ring.
+#[derive(Clone, Default)]
+struct Journal {
+    words: Vec<u64>,
+    ring: Vec<u8>,
 }
 
-impl Batch {
-    fn new(entries: u32, blocks: usize, bytes: &[u8]) -> Self {
-        let n = bytes.len();
-        let image = if n + 8 <= PAYLOAD * blocks {
-            writing::image(&writing::payload(entries as usize, blocks, bytes))
-        } else {
-            vec![]
-        };
-        Batch { entries, blocks: blocks as u32, n, image }
+/// The words of the frozen list, of the one in memory, and of the frozen blocks.
+const FROZEN: usize = 4;
+const MEMORY: usize = 6;
+const HELD: usize = 9;
+
+impl Journal {
+    /// An empty one, whose pending bytes will start at a place. No length word has a byte of its ring.
+    fn new(n: usize, r: usize, start: usize) -> Self {
+        let mut words = vec![0; 17];
+        words[..4].copy_from_slice(&[1, n, r, start].map(|n| n as u64));
+        Journal { words, ring: vec![0xA5; r] }
     }
 
-    /// The image reads as the entries, and as their bytes.
-    fn reads(&self) {
-        let mut payload = vec![0; self.image.len() / BLOCK * PAYLOAD];
-        for strip in [calls::strip, block::strip] {
-            payload.fill(0);
-            assert_eq!(strip(&self.image, &mut payload), 0);
-            for range in [calls::range, reading::range] {
-                let mut totals = [0; 2];
-                assert_eq!(range(&payload, &[], &mut totals), 0);
-                assert_eq!(totals, [u64::from(self.entries), self.n as u64]);
-            }
+    /// With a list that is in its ring, and counted where `list` says; `held` blocks are frozen.
+    fn holding(
+        n: usize,
+        r: usize,
+        start: usize,
+        list: usize,
+        entries: &[Entry],
+        held: usize,
+    ) -> Self {
+        let mut journal = Journal::new(n, r, start);
+        let forms = forms(entries);
+        journal.words[list] = entries.len() as u64;
+        journal.words[list + 1] = forms.len() as u64;
+        journal.words[HELD] = held as u64;
+        for (i, byte) in forms.into_iter().enumerate() {
+            journal.ring[(start + i) % r] = byte;
         }
+        journal
     }
+}
+
+fn forms(entries: &[Entry]) -> Vec<u8> {
+    entries.iter().flat_map(Entry::wire_form).collect()
+}
+
+fn needed(bytes: usize) -> usize {
+    (8 + bytes).div_ceil(PAYLOAD)
 }
 
 /// None, one short of the blocks, exactly that, one more, and a block more.
 fn rooms(blocks: usize) -> [usize; 5] {
     let least = BLOCK * blocks;
-    [0, least.saturating_sub(1), least, least + 1, least + BLOCK]
-}
-
-/// A ring that no byte of a wire form's length words is in.
-fn ring(len: usize) -> Vec<u8> {
-    vec![0xA5; len]
-}
-
-/// Pending bytes from start on: up to the ring's end, and what wraps.
-fn parts(ring: &[u8], start: usize, pending: usize) -> [&[u8]; 2] {
-    let before_end = pending.min(ring.len() - start);
-    [&ring[start..start + before_end], &ring[..pending - before_end]]
+    [0, least - 1, least, least + 1, least + BLOCK]
 }
 
 #[test]
 fn the_cases_of_the_document() {
-    let mut tally = Tally::new();
+    let mut tally = Tally::default();
     for (is_clone, form) in
         [(false, b"\x02\0\0\0ab\x01\0\0\0c"), (true, b"\x02\x10\0\0ab\x01\0\0\0c")]
     {
         let entry = Entry { is_clone, first: b"ab".into(), second: b"c".into() };
-        let mut ring = ring(12);
-        assert!(tally.put(&mut ring, 5, 1, &entry));
-        assert_eq!(ring, [&form[6..], b"\xA5", &form[..6]].concat());
+        let mut journal = Journal::new(1, 12, 6);
+        assert_eq!(tally.append(&mut journal, &entry), 0);
+        assert_eq!(journal.ring, [&form[6..], b"\xA5", &form[..6]].concat());
+        assert_eq!(tally.package(&journal, PackageInMemory, BLOCK, &[entry]), 0);
 
-        let batch = Batch::new(1, 1, form);
-        assert!(tally.marshall(&batch, parts(&ring, 5, 12), 1, BLOCK));
         let mut payload = [b"\x01\0\0\0\x01\0\0\0", &form[..]].concat();
         payload.resize(PAYLOAD, 0);
         let mut block = crc::bit_by_bit(&payload).to_le_bytes().to_vec();
         block.resize(HEAD, 0);
         block.extend(payload);
-        assert_eq!(batch.image, block);
-        batch.reads();
+        assert_eq!(tally.memory.lent().written, block);
     }
-    tally.ends(&[], 4);
+    tally.ends(&[0], 4);
 }
 
-/// Small rings, full to every place, from every start: each word and each byte run wraps at each of
-/// its bytes.
+/// Small rings from every start, with every number of bytes pending in one list or the other: each word
+/// and each byte run wraps at each of its bytes. A start or a pending list that can't be is refused.
 #[test]
 fn small_entries_in_every_small_ring() {
-    let mut tally = Tally::new();
+    let mut tally = Tally::default();
     let random = &mut Random(1);
     for (first, second) in [(0, 0), (0, 3), (1, 0), (2, 1), (3, 3)] {
         for is_clone in [false, true] {
             let [first, second] = [first, second].map(|n| random.bytes(n));
             let entry = Entry { is_clone, first, second };
-            for len in 0..=20 {
+            for len in 0..=30 {
                 for start in 0..=len + 1 {
-                    for pending in 0..=len + 1 {
-                        tally.put(&mut ring(len), start, pending, &entry);
+                    for pending in [0].into_iter().chain(7..=len + 1) {
+                        for list in [FROZEN, MEMORY] {
+                            let mut journal = Journal::new(2, len, start);
+                            journal.words[list] = u64::from(pending > 0);
+                            journal.words[list + 1] = pending as u64;
+                            journal.words[HELD] = u64::from(list == FROZEN);
+                            tally.append(&mut journal, &entry);
+                        }
                     }
                 }
             }
         }
     }
-    tally.ends(&["start", "room"], 30_000);
+    tally.ends(&[0, 2, 6], 100_000);
 }
 
 /// The longest insert and the longest clone, from every start of rings that they fill and nearly so.
 #[test]
 fn long_entries_from_every_start() {
-    let mut tally = Tally::new();
+    let mut tally = Tally::default();
     let random = &mut Random(2);
     for (is_clone, second) in [(false, 1_024), (true, 512)] {
         let entry = Entry { is_clone, first: random.bytes(512), second: random.bytes(second) };
         let weight = entry.weight();
         for len in [weight - 1, weight, weight + 1, weight + 700] {
             for start in 0..=len {
-                let pending = len.saturating_sub(weight);
-                assert_eq!(
-                    tally.put(&mut ring(len), start, pending, &entry),
-                    start < len && len >= weight
-                );
+                let wanted = if start == len {
+                    2
+                } else if len < weight {
+                    6
+                } else {
+                    0
+                };
+                assert_eq!(tally.append(&mut Journal::new(1, len, start), &entry), wanted);
             }
         }
     }
-    tally.ends(&["start", "room"], 8_000);
+    tally.ends(&[0, 2, 6], 8_000);
 }
 
-/// Lengths at their limits, and numbers whose sums are small again.
+/// Lengths at their limits, with and without room.
 #[test]
 fn entries_at_their_limits() {
-    let mut tally = Tally::new();
+    let mut tally = Tally::default();
     let random = &mut Random(3);
-    for (first, second) in [511, 512, 513, 1_024, 4_096]
+    for (first, second) in [0, 511, 512, 513, 1_024, 4_096]
         .into_iter()
         .flat_map(|n| [0, 511, 512, 513, 1_023, 1_024, 1_025].map(|m| (n, m)))
     {
@@ -264,94 +204,109 @@ fn entries_at_their_limits() {
             let entry = Entry { is_clone, first, second };
             let weight = entry.weight();
             for len in [0, 1, weight - 1, weight, weight + 1, 6_000] {
-                let last = len.saturating_sub(1);
-                for start in [0, last, len, usize::MAX - weight, usize::MAX] {
-                    let left = len.saturating_sub(weight);
-                    let large = [usize::MAX - weight + 1, usize::MAX - 7, usize::MAX];
-                    for pending in [0, left, left + 1, len, len + 1].into_iter().chain(large) {
-                        tally.put(&mut ring(len), start, pending, &entry);
+                for start in [0, len.saturating_sub(1)] {
+                    for written in [0, 1] {
+                        let mut journal = Journal::new(1, len, start);
+                        journal.words[8] = written;
+                        tally.append(&mut journal, &entry);
                     }
                 }
             }
         }
     }
-    tally.ends(&["start", "first", "second", "room"], 16_000);
+    tally.ends(&[0, 3, 4, 5, 6], 2_000);
 }
 
-/// A random list is put into a ring behind some bytes that are left alone, and one more entry, which
-/// finds just enough room or a byte too little. Then a part of the list is marshalled from the ring's
-/// two parts, and read.
+/// A random list goes into a ring by appends; some of it is frozen, in parts. One more entry finds just
+/// enough room or a byte too little. What is frozen is packaged, and what is in memory; a ring of
+/// which a byte of a length word is damaged is refused.
 #[test]
 fn lists_through_rings() {
-    let mut tally = Tally::new();
+    let mut tally = Tally::default();
     let random = &mut Random(4);
     for _ in 0..1_500 {
         let most = random.one_of(&[0, 3, 40, 1_024]);
-        let count = random.below(24);
-        let list: Vec<_> = (0..count).map(|_| Entry::random(random, most)).collect();
-        let before = random.one_of(&[0, 1, 100]);
-        let place = |k: usize| before + list[..k].iter().map(Entry::weight).sum::<usize>();
-        let left = random.one_of(&[1, 8, 300]);
-        let mut ring = random.bytes(place(count) + left);
-        let start = random.below(ring.len());
+        let list: Vec<_> = (0..1 + random.below(24)).map(|_| Entry::random(random, most)).collect();
+        let weight = forms(&list).len();
+        let left = random.one_of(&[0, 1, 8, 300]);
+        let mut journal = Journal::new(40, weight + left, random.below(weight + left));
+        let frozen = random.below(list.len() + 1);
         for (k, entry) in list.iter().enumerate() {
-            assert!(tally.put(&mut ring, start, place(k), entry));
+            assert_eq!(tally.append(&mut journal, entry), 0);
+            if k + 1 == frozen || k + 1 < frozen && random.below(6) == 0 {
+                assert_eq!(record::freeze(&mut journal.words), 0);
+            }
         }
         for bytes in [7, 8].map(|n| left.saturating_sub(n)) {
             let entry = Entry { is_clone: true, first: random.bytes(bytes), second: vec![] };
-            tally.put(&mut ring, start, place(count), &entry);
+            let wanted = if bytes + 8 <= left { 0 } else { 6 };
+            assert_eq!(tally.append(&mut journal.clone(), &entry), wanted);
         }
 
-        let to = random.below(count + 1);
-        let from = random.below(to + 1);
-        let forms: Vec<u8> = list[from..to].iter().flat_map(Entry::wire_form).collect();
-        let blocks = (8 + forms.len()).div_ceil(PAYLOAD) + random.below(2);
-        let batch = Batch::new((to - from) as u32, blocks, &forms);
-        batch.reads();
-        let all = parts(&ring, start, ring.len());
-        let held = parts(&ring, start, place(to));
-        for room in rooms(blocks) {
-            for parts in [all, held] {
-                let accepted = tally.marshall(&batch, parts, place(from), room);
-                assert_eq!(accepted, room >= BLOCK * blocks);
+        let (frozen, memory) = list.split_at(frozen);
+        let held = journal.words[HELD] as usize;
+        let mut damaged = journal.clone();
+        let place = (journal.words[3] as usize + 1) % journal.ring.len();
+        damaged.ring[place] = 0xFF;
+        if !frozen.is_empty() {
+            assert_eq!(tally.package(&damaged, PackageFrozen, BLOCK * held, frozen), 15);
+            for room in rooms(held) {
+                let wanted = if room < BLOCK * held { 9 } else { 0 };
+                assert_eq!(tally.package(&journal, PackageFrozen, room, frozen), wanted);
             }
-            assert!(!tally.marshall(&batch, held, place(from) + 1, room));
+            let mut out = vec![0; BLOCK * held];
+            assert_eq!(tally.package(&journal, PackageInMemory, BLOCK, memory), 7);
+            assert_eq!(record::package_frozen(&mut journal.words, &journal.ring, &mut out), 0);
+        }
+        let blocks = needed(forms(memory).len());
+        for room in rooms(blocks) {
+            let wanted = match memory {
+                [] => 8,
+                _ if room < BLOCK * blocks => 9,
+                _ => 0,
+            };
+            assert_eq!(tally.package(&journal, PackageInMemory, room, memory), wanted);
         }
     }
-    tally.ends(&["room", "at", "out"], 40_000);
+    tally.ends(&[0, 6, 7, 8, 9, 15], 30_000);
 }
 
-/// Batches that end at a block's end, and some bytes before and after it, in as many blocks as they
-/// need, one less and one more, to every room.
+/// Lists that end at a block's end, and some bytes before and after it, in as many blocks as they need
+/// and one more, to every room.
 #[test]
-fn batches_around_a_block_end() {
-    let mut tally = Tally::new();
+fn lists_around_a_block_end() {
+    let mut tally = Tally::default();
     let random = &mut Random(5);
     for n in [1, 2, 3, 5].map(|end| PAYLOAD * end - 8).into_iter().flat_map(|n| n - 9..=n + 9) {
         let list = writing::weighing(random, n);
-        let forms: Vec<u8> = list.iter().flat_map(Entry::wire_form).collect();
-        let needed = (8 + n).div_ceil(PAYLOAD);
-        for blocks in needed - 1..=needed + 1 {
-            let batch = Batch::new(list.len() as u32, blocks, &forms);
-            if blocks >= needed {
-                batch.reads();
-            }
-            for split in [0, 1, n / 2, PAYLOAD - 8, PAYLOAD, n].map(|at| at.min(n)) {
-                let (a, b) = forms.split_at(split);
-                for room in rooms(blocks) {
-                    let accepted = tally.marshall(&batch, [a, b], 0, room);
-                    assert_eq!(accepted, blocks >= needed && room >= BLOCK * blocks);
-                }
+        let blocks = needed(n);
+        for (call, at, held) in [
+            (PackageInMemory, MEMORY, 0),
+            (PackageFrozen, FROZEN, blocks),
+            (PackageFrozen, FROZEN, blocks + 1),
+            (PackageFrozen, FROZEN, blocks - 1),
+        ] {
+            let journal = Journal::holding(7, n, random.below(n), at, &list, held);
+            for room in rooms(blocks.max(held)) {
+                let wanted = if at == FROZEN && held < blocks {
+                    2
+                } else if room < BLOCK * blocks.max(held) {
+                    9
+                } else {
+                    0
+                };
+                assert_eq!(tally.package(&journal, call, room, &list), wanted);
             }
         }
     }
-    tally.ends(&["blocks", "out"], 6_000);
+    tally.ends(&[0, 2, 9], 1_500);
 }
 
-/// An entry of 22 bytes across a block's end at each of its bytes, and the longest one at some.
+/// An entry of 22 bytes across a block's end at each of its bytes, and the longest one at some; the ring
+/// ends there too, or anywhere.
 #[test]
 fn entries_across_a_block_end() {
-    let mut tally = Tally::new();
+    let mut tally = Tally::default();
     let random = &mut Random(6);
     for (first, second, step) in [(5, 9, 1), (512, 1_024, 13)] {
         let weight = 8 + first + second;
@@ -360,142 +315,66 @@ fn entries_across_a_block_end() {
             let [first, second] = [first, second].map(|n| random.bytes(n));
             list.push(Entry { is_clone: false, first, second });
             list.extend(writing::weighing(random, 100));
-            let forms: Vec<u8> = list.iter().flat_map(Entry::wire_form).collect();
-            let batch = Batch::new(list.len() as u32, 3, &forms);
-            batch.reads();
-            let (a, b) = forms.split_at(random.below(forms.len() + 1));
-            assert!(tally.marshall(&batch, [a, b], 0, 3 * BLOCK));
+            let n = forms(&list).len();
+            for start in [n - (2 * PAYLOAD - 8), random.below(n)] {
+                let journal = Journal::holding(3, n, start, MEMORY, &list, 0);
+                assert_eq!(tally.package(&journal, PackageInMemory, 3 * BLOCK, &list), 0);
+            }
         }
     }
-    tally.ends(&[], 140);
+    tally.ends(&[0], 250);
 }
 
-/// Made-up bytes that fill so many blocks.
+/// A list over three blocks, from every start of a ring: each word and run of it wraps at each byte.
+#[test]
+fn a_list_from_every_start() {
+    let mut tally = Tally::default();
+    let list = writing::weighing(&mut Random(7), 2 * PAYLOAD + 100);
+    let r = forms(&list).len() + 3;
+    for start in 0..r {
+        let (call, at, held) =
+            if start % 2 == 0 { (PackageInMemory, MEMORY, 0) } else { (PackageFrozen, FROZEN, 3) };
+        let journal = Journal::holding(3, r, start, at, &list, held);
+        assert_eq!(tally.package(&journal, call, 3 * BLOCK, &list), 0);
+    }
+    tally.ends(&[0], 8_000);
+}
+
+/// Lists that fill so many blocks.
 #[test]
 fn every_number_of_blocks() {
-    let mut tally = Tally::new();
+    let mut tally = Tally::default();
     let random = &mut Random(12);
     for blocks in (1..=64).chain(255..=257) {
-        let forms = random.bytes(PAYLOAD * blocks - 8);
-        let (a, b) = forms.split_at(random.below(forms.len()));
-        let batch = Batch::new(random.word() as u32, blocks, &forms);
-        assert!(tally.marshall(&batch, [a, b], 0, BLOCK * blocks));
+        let n = PAYLOAD * blocks - 8;
+        let list = writing::weighing(random, n);
+        let journal = Journal::holding(blocks, n, random.below(n), FROZEN, &list, blocks);
+        assert_eq!(tally.package(&journal, PackageFrozen, BLOCK * blocks, &list), 0);
     }
-    tally.ends(&[], 67);
+    tally.ends(&[0], 67);
 }
 
-/// Made-up bytes over three blocks, split at every place: a piece then crosses no block's end, one or
-/// two. Some are before those that are marshalled, and some behind.
-#[test]
-fn a_batch_split_at_every_byte() {
-    let mut tally = Tally::new();
-    let joined = Random(7).bytes(5 + 2 * PAYLOAD + 100 + 3);
-    let batch = Batch::new(u32::MAX, 3, &joined[5..joined.len() - 3]);
-    for split in 0..=joined.len() {
-        let (a, b) = joined.split_at(split);
-        assert!(tally.marshall(&batch, [a, b], 5, 3 * BLOCK));
-    }
-    tally.ends(&[], 8_000);
-}
-
-/// From every place of some bytes: up to their end, and one and more past it. Either part, or both,
-/// are empty.
-#[test]
-fn batches_from_every_place() {
-    let mut tally = Tally::new();
-    let joined = Random(8).bytes(60);
-    for len in [0, 1, 2, 31, joined.len()] {
-        for n in [0, 1, 2, 30, 31, 59, 60].into_iter().filter(|n| *n <= len) {
-            for at in 0..=len + 1 {
-                let bytes = joined[..len].get(at..at + n);
-                let batch = Batch::new(7, 1, bytes.unwrap_or(&joined[..n]));
-                for split in [0, 1, len / 2, len].map(|split| split.min(len)) {
-                    let (a, b) = joined[..len].split_at(split);
-                    assert_eq!(tally.marshall(&batch, [a, b], at, BLOCK), bytes.is_some());
-                }
-            }
-        }
-    }
-    tally.ends(&["at"], 1_000);
-}
-
-/// Numbers whose sums and products are small again in 32 or 64 bits.
-#[test]
-fn large_numbers() {
-    let mut tally = Tally::new();
-    let joined = Random(9).bytes(3 * PAYLOAD);
-    let around = |n: usize| [n.wrapping_sub(8), n.wrapping_sub(1), n, n.wrapping_add(1)];
-    let sizes = [0, PAYLOAD, 1 << 31, 1 << 32, 1 << 63].map(around);
-    for at in sizes.as_flattened() {
-        for n in sizes.as_flattened() {
-            for blocks in [0, 1, 2, 3, 1 << 19, 1 << 20, (1 << 20) + 2, 1 << 27, u32::MAX] {
-                let bytes = at.checked_add(*n).and_then(|end| joined.get(*at..end));
-                let right = bytes.filter(|_| blocks <= 3 && n + 8 <= PAYLOAD * blocks as usize);
-                let batch = match right {
-                    Some(bytes) => Batch::new(blocks, blocks as usize, bytes),
-                    None => Batch { entries: 1, blocks, n: *n, image: vec![] },
-                };
-                let (a, b) = joined.split_at(PAYLOAD);
-                assert_eq!(tally.marshall(&batch, [a, b], *at, 3 * BLOCK), right.is_some());
-            }
-        }
-    }
-    tally.ends(&[], 3_000);
-}
-
-/// The largest ring, in which a list that fills the most blocks wraps.
+/// The largest region and the longest ring, in which a list that fills all blocks wraps. A byte more
+/// is refused.
 #[test]
 fn the_largest() {
-    let mut tally = Tally::new();
-    let list = writing::weighing(&mut Random(10), PAYLOAD * 1_024 - 8);
-    let forms: Vec<u8> = list.iter().flat_map(Entry::wire_form).collect();
-    let (before_end, from_start) = forms.split_at(2_000_001);
-    let mut ring = ring(8_388_608);
-    let mut wanted = ring.clone();
-    let start = ring.len() - before_end.len();
-    wanted[start..].copy_from_slice(before_end);
-    wanted[..from_start.len()].copy_from_slice(from_start);
-    let mut pending = 0;
-    for entry in &list {
-        let Entry { is_clone, first, second } = entry;
-        assert!(calls::put_entry(&mut ring, start, pending, *is_clone, first, second));
-        pending += entry.weight();
+    const N: usize = 1_024;
+    const R: usize = 8_388_608;
+    let mut tally = Tally::default();
+    let list = writing::weighing(&mut Random(10), PAYLOAD * N - 8);
+    let start = R - 2_000_001;
+    let wanted = Journal::holding(N, R, start, MEMORY, &list, 0);
+    let mut journal = Journal::new(N, R, start);
+    for Entry { is_clone, first, second } in &list {
+        let append = if *is_clone { record::append_clone } else { record::append_insert };
+        assert_eq!(append(&mut journal.words, &mut journal.ring, first, second), 0);
     }
-    assert!(ring == wanted, "the ring differs");
-    for blocks in [1_023, 1_024, 1_025] {
-        let batch = Batch::new(list.len() as u32, blocks, &forms);
-        let room = BLOCK * blocks;
-        assert_eq!(tally.marshall(&batch, parts(&ring, start, pending), 0, room), blocks >= 1_024);
+    assert!(journal.words == wanted.words && journal.ring == wanted.ring, "the ring differs");
+    let more = Entry { is_clone: false, first: vec![], second: vec![] };
+    assert_eq!(tally.append(&mut journal, &more), 5);
+    for room in [BLOCK * N - 1, BLOCK * N] {
+        let wanted = if room < BLOCK * N { 9 } else { 0 };
+        assert_eq!(tally.package(&journal, PackageInMemory, room, &list), wanted);
     }
-    Batch::new(list.len() as u32, 1_024, &forms).reads();
-    tally.ends(&[], 3);
-}
-
-/// The comparison above finds one wrong byte: in what is only read, in what is written, behind that,
-/// and in what is refused. It finds a wrong answer.
-#[test]
-fn a_wrong_byte_is_found() {
-    let memory = &mut Memory::default();
-    let random = &mut Random(11);
-    let bytes = random.bytes(600);
-    let (a, b) = bytes.split_at(200);
-    let Batch { image, .. } = Batch::new(3, 1, &bytes);
-    for (room, wanted) in
-        [(BLOCK - 1, None), (BLOCK, Some(&image[..])), (BLOCK + 1, Some(&image[..]))]
-    {
-        let out = vec![0xA5; room];
-        let right =
-            |a: &mut [u8], b: &mut [u8], out: &mut [u8]| calls::marshall(a, b, 0, 600, 3, 1, out);
-        assert!(same(memory, [a, b], &out, wanted, right));
-        for at in 0..bytes.len() + room {
-            let wrong = |a: &mut [u8], b: &mut [u8], out: &mut [u8]| {
-                let answer = right(a, b, out);
-                *a.iter_mut().chain(b).chain(out).nth(at).unwrap() ^= 1;
-                answer
-            };
-            assert!(!same(memory, [a, b], &out, wanted, wrong), "byte {at}, room for {room}");
-        }
-        let wrong = |a: &mut [u8], b: &mut [u8], out: &mut [u8]| !right(a, b, out);
-        assert!(!same(memory, [a, b], &out, wanted, wrong), "the answer, room for {room}");
-    }
+    tally.ends(&[0, 5, 9], 3);
 }

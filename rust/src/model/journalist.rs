@@ -233,11 +233,11 @@ fn pending(record: &Record, ring: &[u8]) -> Result<[Vec<u8>; 2], u64> {
     }
 }
 
-/// A batch of these entries, to the start of `out`.
+/// The image of a batch of these entries, to the start of `out`.
 fn batch(list: List, bytes: &[u8], blocks: u64, out: &mut [u8]) -> Result<(), u64> {
-    require(out.len() >= BLOCK * blocks as usize, 9)?;
-    let [entries, blocks] = [list.entries, blocks].map(|n| n as u32);
-    assert!(writing::marshall(bytes, &[], 0, bytes.len(), entries, blocks, out));
+    let [entries, blocks] = [list.entries, blocks].map(|n| n as usize);
+    let out = out.get_mut(..BLOCK * blocks).ok_or(9_u64)?;
+    out.copy_from_slice(&writing::image(&writing::payload(entries, blocks, bytes)));
     Ok(())
 }
 

@@ -5,5 +5,6 @@ pub mod crc;
 pub mod entries;
 pub mod journalist;
 pub mod places;
+pub mod plain;
 pub mod reading;
 pub mod writing;

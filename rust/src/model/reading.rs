@@ -26,36 +26,63 @@ pub fn range(front: &[u8], back: &[u8], totals: &mut [u64]) -> u64 {
 }
 
 /// Front and back as one: a place is counted from front's start.
-struct Joined<'a> {
-    front: &'a [u8],
-    back: &'a [u8],
+pub struct Joined<'a> {
+    pub front: &'a [u8],
+    pub back: &'a [u8],
+}
+
+/// A batch: how many entries, where their forms start and end, and where its blocks end.
+pub struct Batch {
+    pub entries: u32,
+    pub forms: usize,
+    pub forms_end: usize,
+    pub end: usize,
 }
 
 impl Joined<'_> {
-    fn read(&self) -> Option<[u64; 2]> {
-        let len = self.front.len() + self.back.len();
-        if !len.is_multiple_of(PAYLOAD) {
+    pub fn len(&self) -> usize {
+        self.front.len() + self.back.len()
+    }
+
+    pub fn is_empty(&self) -> bool {
+        self.len() == 0
+    }
+
+    /// How many entries there are in all batches, and how many bytes of wire forms.
+    pub fn read(&self) -> Option<[u64; 2]> {
+        if !self.len().is_multiple_of(PAYLOAD) {
             return None;
         }
         let mut totals = [0; 2];
         let mut start = 0;
-        while start < len {
-            let entries = self.word(start, len)?;
-            let blocks = self.word(start + 4, len)?;
-            let end = start + PAYLOAD * blocks as usize;
-            if blocks == 0 || end > len {
-                return None;
-            }
-            let forms = start + 8;
-            let mut at = forms;
-            for _ in 0..entries {
-                at = self.after_entry(at, end)?;
-            }
-            totals[0] += u64::from(entries);
-            totals[1] += (at - forms) as u64;
-            start = end;
+        while start < self.len() {
+            let batch = self.batch(start)?;
+            totals[0] += u64::from(batch.entries);
+            totals[1] += (batch.forms_end - batch.forms) as u64;
+            start = batch.end;
         }
         Some(totals)
+    }
+
+    /// The batch at `start`.
+    pub fn batch(&self, start: usize) -> Option<Batch> {
+        let entries = self.word(start, self.len())?;
+        let blocks = self.word(start + 4, self.len())?;
+        let end = start + PAYLOAD * blocks as usize;
+        if blocks == 0 || end > self.len() {
+            return None;
+        }
+        let forms = start + 8;
+        let forms_end = self.after_entries(forms, end, entries as usize)?;
+        Some(Batch { entries, forms, forms_end, end })
+    }
+
+    /// The place behind so many entries from `at` on, if they are that and end by `end`.
+    pub fn after_entries(&self, mut at: usize, end: usize, entries: usize) -> Option<usize> {
+        for _ in 0..entries {
+            at = self.after_entry(at, end)?;
+        }
+        Some(at)
     }
 
     /// The place behind the entry at `at`, if it is one and ends by `end`.
@@ -85,5 +112,12 @@ impl Joined<'_> {
             [0; 4].map(|_| *bytes.next().unwrap())
         };
         Some(u32::from_le_bytes(word))
+    }
+
+    /// The bytes from `at` to `end`, in two parts.
+    pub fn parts(&self, at: usize, end: usize) -> [&[u8]; 2] {
+        let n = self.front.len();
+        let front = &self.front[at.min(n)..end.min(n)];
+        [front, &self.back[at.saturating_sub(n)..end.saturating_sub(n)]]
     }
 }

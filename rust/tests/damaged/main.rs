@@ -1,34 +1,14 @@
-//! Every call against the model, on records and in buffers that are damaged in every way: the answer,
-//! every word and every byte that is lent. `JOURNAL_TESTS_TIMES` makes the runs longer.
+//! Every call, of the library and of the plain Rust implementation, against the model, on records and in
+//! buffers that are damaged in every way: the answer, every word and every byte that is lent.
+//! `JOURNAL_TESTS_TIMES` makes the runs longer.
 mod state;
 
-use journal_tests::call::{Call, Call::*, QUERIES};
+use journal_tests::call::{compared, Call, Call::*, QUERIES};
 use journal_tests::memory::{Lent, Memory, Slices};
 use journal_tests::model::journalist::{self, WORDS};
 use journal_tests::random::{times, Random};
 use state::State;
 use std::collections::{BTreeMap, BTreeSet};
-
-/// The answer, if `library` gives the model's and leaves the same in all that it is lent.
-fn compared(
-    memory: &mut Memory,
-    call: Call,
-    lent: &Lent,
-    library: impl Fn(Call, Slices) -> u64,
-) -> Result<u64, String> {
-    let mut wanted = lent.clone();
-    let right = call.of_model(wanted.slices());
-    assert!(right == 0 || wanted == *lent, "{call:?}: the model's refusal changes something");
-    memory.hold(lent);
-    let code = library(call, memory.slices());
-    let different = memory.different(&wanted);
-    if code == right && different.is_empty() {
-        return Ok(code);
-    }
-    let Lent { read: [a, b], written, words, answer } = lent;
-    let lens = [a.len(), b.len(), written.len(), answer.len()];
-    Err(format!("{call:?} gives {code} for {right}, {different:?} differ: {words:?}, {lens:?}"))
-}
 
 /// The answers that were compared, and how often a record's condition decided alone: where it held
 /// exactly, and where it failed by one.
@@ -41,9 +21,8 @@ struct Tally {
 
 impl Tally {
     fn compare(&mut self, call: Call, lent: &Lent) {
-        let library = |call: Call, lent: Slices| call.of_library(lent);
-        let code =
-            compared(&mut self.memory, call, lent, library).unwrap_or_else(|e| panic!("{e}"));
+        let code = compared(&mut self.memory, call, lent, &[&Call::of_library, &Call::of_plain])
+            .unwrap_or_else(|e| panic!("{e}"));
         *self.answers.entry(call.name()).or_default().entry(code % 256).or_default() += 1;
         let conditions = journalist::conditions(&lent.words).unwrap_or_default();
         let fail = conditions.iter().filter(|(_, a, b)| a > b).count();
@@ -299,7 +278,7 @@ fn a_wrong_byte_is_found() {
         for call in EVERY.into_iter().chain(QUERIES) {
             let lent = state.lent(call, random);
             let wrong = |call: Call, lent: Slices| call.of_library(lent) ^ 1;
-            assert!(compared(memory, call, &lent, wrong).is_err(), "{call:?}: the answer");
+            assert!(compared(memory, call, &lent, &[&wrong]).is_err(), "{call:?}: the answer");
             let Lent { read: [a, b], written, words, answer } = &lent;
             let lens = [a.len(), b.len(), written.len(), 8 * words.len(), 8 * answer.len()];
             for (buffer, len) in lens.into_iter().enumerate().filter(|(_, len)| *len > 0) {
@@ -316,7 +295,7 @@ fn a_wrong_byte_is_found() {
                         }
                         code
                     };
-                    let found = compared(memory, call, &lent, wrong).is_err();
+                    let found = compared(memory, call, &lent, &[&wrong]).is_err();
                     assert!(found, "{call:?}: byte {at} of buffer {buffer}");
                 }
             }
