@@ -2,7 +2,7 @@
  *
  * Every function is proved to meet its contract whatever numbers and bytes it is handed. A slice is a pointer and a count of ELEMENTS. The
  * caller owes only this: pointers are valid for their counts and aligned for their type, the memory is initialised, and a slice that a
- * function may write (one that is not const) overlaps no other slice of the same call. An empty slice may have any pointer, NULL too.
+ * function may write (one that is not const) overlaps no other slice of the same call. An empty slice may be NULL.
  *
  * A function gives 0, or the number of its refusal (below), and a refused call changes nothing: no word and no byte. 12 comes with 256 times
  * the block, so `code & 255` is the number and `code >> 8` the block. */

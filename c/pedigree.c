@@ -71,7 +71,7 @@ int main(void) {
     must("open", journal_open(words, JOURNAL_WORDS, BLOCKS, RING));
     must("strip", journal_strip(card, blocks * JOURNAL_BLOCK, payload, sizeof payload));
     must("set front", journal_set_front(words, JOURNAL_WORDS, payload, blocks * JOURNAL_PAYLOAD, front, sizeof front));
-    must("set back", journal_set_back(words, JOURNAL_WORDS, payload, 0, back, sizeof back));
+    must("set back", journal_set_back(words, JOURNAL_WORDS, NULL, 0, back, sizeof back));
     must("load", journal_load(words, JOURNAL_WORDS, front, sizeof front, back, sizeof back, replay, sizeof replay));
     print_replay();
     must("set written", journal_set_written(words, JOURNAL_WORDS, blocks));
