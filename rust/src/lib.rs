@@ -1,4 +1,5 @@
-//! The archive's exported functions, declared and wrapped, and a plain Rust model of them.
+//! The archive's exported functions, declared and wrapped; a model of them, and a plain Rust
+//! implementation to be measured against.
 pub mod call;
 pub mod calls;
 pub mod guarded;
