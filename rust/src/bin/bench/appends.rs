@@ -77,6 +77,7 @@ impl Appends {
             name: format!("append {}", self.weight),
             calls: self.count(),
             bytes: self.weight * self.count(),
+            often: 1,
             ways: vec![
                 Way::new("rattle", move || self.round(of_library)),
                 Way::new("rust", move || self.round(of_plain)),

@@ -20,6 +20,7 @@ pub fn cases(buffer: &[u8]) -> Vec<Case<'_>> {
         name: format!("checksum {piece}"),
         calls: buffer.len().div_ceil(piece),
         bytes: buffer.len(),
+        often: 1,
         ways: functions.iter().map(|&named| way(named, piece)).collect(),
     };
     [64, 256, 512, 4_064, 1 << 20].map(case).into()

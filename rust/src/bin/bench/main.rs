@@ -16,11 +16,13 @@ use std::hint::black_box;
 use std::time::Instant;
 
 /// Some work, and the ways to do it: Rattle's is the first, plain Rust's the second. A round makes so
-/// many calls, which are about so many bytes.
+/// many calls, which are about so many bytes. Short rounds are made `often`: for each of the others,
+/// but the first, so many.
 pub struct Case<'a> {
     name: String,
     calls: usize,
     bytes: usize,
+    often: usize,
     ways: Vec<Way<'a>>,
 }
 
@@ -88,6 +90,7 @@ fn mixed(records: &[Words]) -> u64 {
 /// The best and the middle of each way's rounds, in seconds.
 fn measured(case: &mut Case, rounds: usize) -> Vec<[f64; 2]> {
     let n = case.ways.len();
+    let rounds = 1 + (rounds - 1) * case.often;
     let mut seconds = vec![Vec::new(); n];
     let mut wanted = None;
     for round in 0..rounds {

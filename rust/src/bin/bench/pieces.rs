@@ -129,6 +129,7 @@ impl Pieces {
             name: format!("{name} {}", self.blocks),
             calls: BLOCKS / self.blocks,
             bytes: PAYLOAD * BLOCKS,
+            often: 1,
             ways: vec![
                 Way::new("rattle", move || self.round(before, rattle)),
                 Way::new("rust", move || self.round(before, rust)),

@@ -38,6 +38,7 @@ impl Small {
             name: name.into(),
             calls: RECORDS,
             bytes: size_of::<Words>() * RECORDS,
+            often: 20,
             ways: vec![
                 Way::new("rattle", move || self.round(before, rattle)),
                 Way::new("rust", move || self.round(before, rust)),
