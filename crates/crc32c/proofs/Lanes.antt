@@ -6,12 +6,12 @@ use Prim.Native.Nat.{ℕ, zero, suc, _+_, _-_, _*_, _/_, _%_, _≤_, _<_}
 use native.Mathlib.Omega.{arith}
 use lib.Bits.{bitXor, xor-comm, xor-zero-r}
 use lib.ListN.{length, take, drop, getD, replicate, take-append-drop, length-drop, drop-of-length-le}
-use lib.Seq.{drop-cons, drop-drop, length-take-le}
+use lib.Seq.{drop-cons, drop-drop, length-take-le, take-all}
 use Rattle.crc32c_register.specs.Register.{stepBits, stepByte}
 use Rattle.crc32c_register.proofs.Xor.{xor-assoc, xor-cross}
 use Rattle.crc32c_register.proofs.Steps.{stepBits-xor, stepBits-add, stepBits-later}
 use Rattle.words.specs.Words.{unpack}
-use Rattle.words.proofs.Slices.{Bytes, bytes-take, bytes-drop, tail, four}
+use Rattle.words.proofs.Slices.{Bytes, bytes-take, bytes-drop, four}
 use Rattle.crc32c.specs.Lanes.{lanes}
 
 -- ---- bytes as one number
@@ -48,6 +48,12 @@ from-next c i r s h e =
 pub from-end : (c i : ℕ) (s : List ℕ) → length s ≤ i → foldl stepByte c (drop i s) ≡ c
 from-end c i s h = ap (foldl stepByte c) (drop-of-length-le s h)
 
+-- ---- a word as the code puts it together
+
+word-of-bytes : (i w : ℕ) (s : List ℕ) → i + 4 ≤ length s
+    → w ≡ unpack (getD s i 0 ∷ getD s (i + 1) 0 ∷ getD s (i + 2) 0 ∷ getD s (i + 3) 0 ∷ []) → w ≡ unpack (take 4 (drop i s))
+word-of-bytes i w s h e = e ∙ ap unpack (sym (four i s h))
+
 -- ---- what is due
 
 -- nothing is due
@@ -58,6 +64,12 @@ lanes-none (suc k) r s =
     lanes-none k (bitXor (foldl stepByte r (take 4 s)) 0) (drop 4 s)
     ∙ ap (λ (x : ℕ). foldl stepByte x (drop 4 s)) (xor-zero-r (foldl stepByte r (take 4 s)))
     ∙ split-fold r s
+
+-- nothing more is due
+nothing-more : (due : List ℕ) (r : ℕ) (s : List ℕ) → lanes r (due ++ (0 ∷ [])) s ≡ lanes r due s
+unfolding lanes
+nothing-more [] r s = lanes-none 1 r s
+nothing-more (d ∷ due) r s = nothing-more due (bitXor (foldl stepByte r (take 4 s)) d) (drop 4 s)
 
 -- a number that is added now is added 32 steps on after a word
 carry-word : (r x : ℕ) (s : List ℕ) → Bytes s → 4 ≤ length s
@@ -96,7 +108,7 @@ turn a b next due s bytes h e =
     ∙ sym (carry due b (stepBits 32 word) (drop 4 s) (bytes-drop 4 s bytes) (omega (arith, length-drop 4 s)))
     ∙ ap (λ (y : ℕ). lanes y due (drop 4 s)) (xor-comm b (stepBits 32 word) ∙ ap (λ (y : ℕ). bitXor y b) (sym (over-word s bytes (omega arith) a)))
 
--- the same at place i, with three that are due, of the word as the code puts it together
+-- the same at place i, with three that are due
 pub turn-at : (s : List ℕ) → Bytes s → (a b c d i w next : ℕ) → i + 16 ≤ length s
     → w ≡ unpack (getD s i 0 ∷ getD s (i + 1) 0 ∷ getD s (i + 2) 0 ∷ getD s (i + 3) 0 ∷ [])
     → next ≡ stepBits 128 (bitXor a w)
@@ -104,19 +116,25 @@ pub turn-at : (s : List ℕ) → Bytes s → (a b c d i w next : ℕ) → i + 16
 turn-at s bytes a b c d i w next h ew en =
     ap (lanes b (c ∷ d ∷ next ∷ [])) (sym (drop-drop 4 i s))
     ∙ turn a b next (c ∷ d ∷ []) (drop i s) (bytes-drop i s bytes) (omega (arith, length-drop i s))
-    (en ∙ ap (λ (x : ℕ). stepBits 128 (bitXor a x)) (ew ∙ ap unpack (sym (four i s (omega arith)))))
+    (en ∙ ap (λ (x : ℕ). stepBits 128 (bitXor a x)) (word-of-bytes i w s (omega arith) ew))
 
--- the last bytes, a part at a time
-pub in-parts : (a b c d first second third last : ℕ) (s : List ℕ)
-    → first ≡ foldl stepByte a (take 4 s)
-    → second ≡ foldl stepByte (bitXor first b) (take 4 (drop 4 s))
-    → third ≡ foldl stepByte (bitXor second c) (take 4 (drop 8 s))
-    → last ≡ foldl stepByte (bitXor third d) (take (length s - 12) (drop 12 s))
-    → last ≡ lanes a (b ∷ c ∷ d ∷ []) s
+-- one turn of the last words: what is due first is added, and nothing more is due
+pub due-turn : (s : List ℕ) → Bytes s → (r b c d i w next : ℕ) → i + 4 ≤ length s
+    → w ≡ unpack (getD s i 0 ∷ getD s (i + 1) 0 ∷ getD s (i + 2) 0 ∷ getD s (i + 3) 0 ∷ [])
+    → next ≡ stepBits 32 (bitXor r w)
+    → lanes (bitXor next b) (c ∷ d ∷ 0 ∷ []) (drop (i + 4) s) ≡ lanes r (b ∷ c ∷ d ∷ []) (drop i s)
 unfolding lanes
-in-parts a b c d first second third last s e₁ e₂ e₃ e₄ =
-    let at-8 : drop 8 s ≡ drop 4 (drop 4 s) = sym (drop-drop 4 4 s) in
-    let at-12 : drop 12 s ≡ drop 4 (drop 4 (drop 4 s)) = sym (drop-drop 4 8 s) ∙ ap (drop 4) at-8 in
-    let two = e₂ ∙ ap (λ (x : ℕ). foldl stepByte (bitXor x b) (take 4 (drop 4 s))) e₁ in
-    let three = e₃ ∙ ap₂ (λ (x : ℕ) (l : List ℕ). foldl stepByte (bitXor x c) (take 4 l)) two at-8 in
-    e₄ ∙ ap₂ (λ (x : ℕ) (l : List ℕ). foldl stepByte (bitXor x d) l) three (tail 12 s ∙ at-12)
+due-turn s bytes r b c d i w next h ew en =
+    let t = drop i s in
+    let stepped : next ≡ foldl stepByte r (take 4 t) =
+    en ∙ ap (λ (x : ℕ). stepBits 32 (bitXor r x)) (word-of-bytes i w s h ew)
+    ∙ sym (over-word t (bytes-drop i s bytes) (omega (arith, length-drop i s)) r) in
+    nothing-more (c ∷ d ∷ []) (bitXor next b) (drop (i + 4) s)
+    ∙ ap₂ (λ (x : ℕ) (l : List ℕ). lanes (bitXor x b) (c ∷ d ∷ []) l) stepped (sym (drop-drop 4 i s))
+
+-- and their end: fewer bytes than a word are left, and what is still due is added behind them
+pub due-end : (r b c d : ℕ) (t : List ℕ) → length t < 4 → bitXor (bitXor (bitXor (foldl stepByte r t) b) c) d ≡ lanes r (b ∷ c ∷ d ∷ []) t
+unfolding lanes
+due-end r b c d t h =
+    let short : length t ≤ 4 = omega arith in
+    sym (ap₂ (λ (l m : List ℕ). lanes (bitXor (foldl stepByte r l) b) (c ∷ d ∷ []) m) (take-all 4 t short) (drop-of-length-le t short))

@@ -1,12 +1,11 @@
 // CRC-32C of a slice of bytes, and the 32 bytes at a block's head.
 ghost use mathlib.Core.Path.{_≡_};
 ghost use mathlib.Core.List.{[], _∷_, foldl};
-ghost use Prim.Native.Nat.{_≤_};
-ghost use lib.ListN.{length};
 ghost use Rattle.crc32c_register.specs.Register.{stepByte};
 ghost use Rattle.crc32c.specs.Crc32c.{crc32cOf, checksumBytes};
 ghost use Rattle.crc32c.specs.Lanes.{lanes};
 use crc32c_register::step_byte;
+use crc32c_register::step_word;
 use crc32c_tables::step_128;
 use words::word_of;
 
@@ -23,20 +22,27 @@ fn with_bytes(register: u32, s: &[u8]) -> u32
     r
 }
 
-// The register a with the bytes of s, where b, c and d are due after its first words.
+// The register a with the bytes of s, a word at a turn, where b, c and d are due, one after each of the first words.
 fn with_due(a: u32, b: u32, c: u32, d: u32, s: &[u8]) -> u32
-    requires { ⌜ 12 ≤ length (now s) ⌝ }
     ensures { λ r. ⌜ r ≡ lanes a (b ∷ c ∷ d ∷ []) (now (s .entry)) ⌝ }
 {
-    let first = with_bytes(a, &s[0..4]);
-    let second = with_bytes(first ^ b, &s[4..8]);
-    let third = with_bytes(second ^ c, &s[8..12]);
-    with_bytes(third ^ d, &s[12..])
+    let mut r = a;
+    let mut first = b;
+    let mut second = c;
+    let mut third = d;
+    let mut i = 0;
+    while i + 4 <= s.len() {
+        r = step_word(r ^ word_of(s[i], s[i + 1], s[i + 2], s[i + 3])) ^ first;
+        first = second;
+        second = third;
+        third = 0;
+        i += 4;
+    }
+    with_bytes(r, &s[i..]) ^ first ^ second ^ third
 }
 
 // The register with the bytes of s, a word at a turn. Four registers take the words in rotation, so that no look into the tables waits for the one before.
 fn with_words(register: u32, s: &[u8]) -> u32
-    requires { ⌜ 16 ≤ length (now s) ⌝ }
     ensures { λ r. ⌜ r ≡ foldl stepByte register (now (s .entry)) ⌝ }
 {
     let mut a = register;
@@ -59,11 +65,7 @@ fn with_words(register: u32, s: &[u8]) -> u32
 pub fn crc32c(s: &[u8]) -> u32
     ensures { λ r. ⌜ r ≡ crc32cOf (now (s .entry)) ⌝ }
 {
-    if s.len() < 16 {
-        with_bytes(0xFFFF_FFFF, s) ^ 0xFFFF_FFFF
-    } else {
-        with_words(0xFFFF_FFFF, s) ^ 0xFFFF_FFFF
-    }
+    with_words(0xFFFF_FFFF, s) ^ 0xFFFF_FFFF
 }
 
 // The 32 bytes at the head of a block with the payload s.

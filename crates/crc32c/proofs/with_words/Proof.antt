@@ -2,7 +2,7 @@
 -- Assumes nothing.
 use mathlib.Core.Path.{_≡_, ap, _∙_}
 use mathlib.Core.List.{[], _∷_, foldl}
-use Prim.Native.Nat.{_+_, _-_, _≤_}
+use Prim.Native.Nat.{_-_, _≤_}
 use lib.ListN.{length, drop}
 use borrow.Author.Needs.{needs}
 use Rattle.crc32c_register.specs.Register.{stepByte}
@@ -13,7 +13,7 @@ use Rattle.crc32c.proofs.with_words.Statement.{statement}
 use Rattle.crc32c.proofs.with_words.Tie as tie
 
 abbrev Inv-loop : tie.InvT-loop
-Inv-loop register s a₀ b₀ c₀ d₀ i₀ a b c d i = (i + 12 ≤ length s) × (lanes a (b ∷ c ∷ d ∷ []) (drop i s) ≡ foldl stepByte register s)
+Inv-loop register s a₀ b₀ c₀ d₀ i₀ a b c d i = (i ≤ length s) × (lanes a (b ∷ c ∷ d ∷ []) (drop i s) ≡ foldl stepByte register s)
 
 abbrev μ-loop : tie.MeasureT-loop
 μ-loop register s a₀ b₀ c₀ d₀ i₀ a b c d i = length s - i
