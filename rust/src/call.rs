@@ -39,6 +39,21 @@ pub enum Call {
 
 use Call::*;
 
+/// Those that take no number and do more than ask.
+pub const NUMBERLESS: [Call; 11] = [
+    AppendInsert,
+    AppendClone,
+    Freeze,
+    PackageFrozen,
+    PackageInMemory,
+    Strip,
+    SetFront,
+    SetBack,
+    Load,
+    Top,
+    Pop,
+];
+
 /// Those that only ask.
 pub const QUERIES: [Call; 6] =
     [HasFrozen, HasInMemory, GetWritten, IsReplayEmpty, HasFront, HasBack];

@@ -1,5 +1,5 @@
 //! Random records that hang together, with the buffers that belong to them, and calls on them.
-use journal_tests::call::{Call, Call::*, QUERIES};
+use journal_tests::call::{Call, Call::*, NUMBERLESS, QUERIES};
 use journal_tests::memory::Lent;
 use journal_tests::model::block::{BLOCK, PAYLOAD};
 use journal_tests::model::journalist;
@@ -142,19 +142,7 @@ impl State {
             1 => SetWritten(len(random)),
             2 => UpdateWritten(len(random)),
             3..9 => QUERIES[random.below(6)],
-            k => [
-                AppendInsert,
-                AppendClone,
-                Freeze,
-                PackageFrozen,
-                PackageInMemory,
-                Strip,
-                SetFront,
-                SetBack,
-                Load,
-                Top,
-                Pop,
-            ][k - 9],
+            k => NUMBERLESS[k - 9],
         }
     }
 

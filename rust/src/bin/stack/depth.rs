@@ -1,4 +1,4 @@
-//! The bytes of stack that a call uses: it is made on a painted stack of its own, and the lowest byte
+//! The bytes of stack that a call uses: it is made on a painted stack of its own, and the lowest word
 //! that is no longer paint says how deep it went.
 use std::arch::{asm, naked_asm};
 
@@ -54,7 +54,7 @@ fn used_on(paint: u8, f: *const (), words: &[u64]) -> (usize, u64) {
     let answer = unsafe { call_on(end.sub(odd), f, words) };
     let lowest = stack.iter().position(|byte| *byte != paint).unwrap();
     assert!(lowest > 0, "the whole of the painted stack was used");
-    (PAINTED - odd - lowest, answer)
+    ((PAINTED - odd - lowest).next_multiple_of(8), answer)
 }
 
 #[unsafe(naked)]
@@ -82,7 +82,7 @@ extern "C" fn digits(
     [a, b, c, d, e, f, g, h, i].iter().fold(0, |sum, digit| 10 * sum + digit)
 }
 
-/// The measure is right to the byte, and every word of a call arrives.
+/// The measure is right to the word, and every word of a call arrives.
 pub fn check_itself() {
     assert_eq!(used(returns as *const (), Vec::new).0, 8);
     assert_eq!(used(goes_10_000_deep as *const (), Vec::new).0, 10_008);
