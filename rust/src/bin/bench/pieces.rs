@@ -137,6 +137,14 @@ impl Pieces {
         }
     }
 
+    /// The same of calls that copy the payload and make checksums, with the limits of both.
+    fn sealing(&self, name: &str, before: Before, rattle: Work, rust: Work) -> Case<'_> {
+        let mut case = self.case(name, before, rattle, rust);
+        case.ways.push(self.to_copy());
+        case.ways.extend(self.to_sum());
+        case
+    }
+
     /// A limit for calls that copy: to copy the payload.
     fn to_copy(&self) -> Way<'_> {
         let copy: Work = |piece, _, out| {
@@ -163,39 +171,30 @@ pub const EACH_SIZE: [fn(&Pieces) -> Case<'_>; 7] =
     [package_frozen, package_in_memory, strip, set_front, range, load, replay];
 
 fn package_frozen(pieces: &Pieces) -> Case<'_> {
-    let mut case = pieces.case(
+    pieces.sealing(
         "package frozen",
         Read::frozen,
         |piece, words, out| library::package_frozen(words, &piece.ring, out),
         |piece, words, out| plain::package_frozen(words, &piece.ring, out),
-    );
-    case.ways.push(pieces.to_copy());
-    case.ways.extend(pieces.to_sum());
-    case
+    )
 }
 
 fn package_in_memory(pieces: &Pieces) -> Case<'_> {
-    let mut case = pieces.case(
+    pieces.sealing(
         "package memory",
         Read::in_memory,
         |piece, words, out| library::package_in_memory(words, &piece.ring, out),
         |piece, words, out| plain::package_in_memory(words, &piece.ring, out),
-    );
-    case.ways.push(pieces.to_copy());
-    case.ways.extend(pieces.to_sum());
-    case
+    )
 }
 
 fn strip(pieces: &Pieces) -> Case<'_> {
-    let mut case = pieces.case(
+    pieces.sealing(
         "strip",
         Read::empty,
         |piece, _, out| calls::strip(&piece.image, out),
         |piece, _, out| plain::strip(&piece.image, out),
-    );
-    case.ways.push(pieces.to_copy());
-    case.ways.extend(pieces.to_sum());
-    case
+    )
 }
 
 fn set_front(pieces: &Pieces) -> Case<'_> {
