@@ -1,14 +1,88 @@
--- The starred cases hold, by computation. Assumes nothing.
-use mathlib.Core.Path.{refl}
+-- The starred cases hold: each range by computation whether it reads, and then by the laws of a recovery; the others by computation. Assumes nothing.
+use mathlib.Core.Path.{_≡_, refl, sym, ap, _∙_}
+use mathlib.Core.Bool.{true}
+use mathlib.Core.List.{List, [], append-nil}
+use mathlib.Core.Option.{none, some}
+use Prim.Native.Nat.{ℕ, _+_, _%_, _≤_}
+use native.Mathlib.Omega.{arith}
+use lib.ListN.{length}
+use Rattle.refusals.specs.Outcome.{gives, refuses}
 use Rattle.words.specs.Words.{word}
-use Rattle.journal_entry.specs.Entry.{wire, wires, withinLimits}
+use Rattle.words.specs.Lists.{concatSeq}
+use Rattle.journal_entry.specs.Entry.{JournalEntry, SumJournalEntries, wire, wires, withinLimits}
 use Rattle.journal_entry.specs.Parse.{readBytes, readWord, parseEntry, readEntries, parseEntries}
-use Rattle.journal_range.specs.Range.{parseHeader, parseJournalRangeOfBytes, parseFrom, parseJournalRange}
-use Rattle.journal_range.specs.Payload.{payload}
+use Rattle.journal_range.specs.Range.{JournalRange, parseHeader, parseJournalRangeOfBytes, parseFrom, parseJournalRange}
+use Rattle.journal_range.specs.Payload.{payload, parsePayload}
 use Rattle.disk_layout.specs.JournalInterval.{ValidJournalInterval, ContiguousJournalInterval, JournalFrontInterval, JournalBackInterval, NextStartPoint}
 use Rattle.disk_layout.specs.Calls.{frontCall, backCall, nextStartCall, locationCall}
-use Rattle.cases.specs.Cases.{AllHold, cases}
+use Rattle.journalist.specs.declared.Journalist.{Journalist}
+use Rattle.journalist.specs.Record.{inRange, hangsTogether}
+use Rattle.journalist.specs.Changes.{emptyRecord}
+use Rattle.journalist.specs.Calls.{openCall}
+use Rattle.journalist.proofs.Kept.{empty-hangs}
+use Rattle.history.specs.Crash.{replayed}
+use Rattle.history.proofs.Crash.{recovers, not-recovered}
+use Rattle.cases.specs.Cases.{loaded, AllHold, cases}
+
+-- the new record
+abbrev new : Journalist
+new = emptyRecord 10 0
+
+new-opened : openCall 10 0 ≡ gives new
+unfolding openCall inRange
+new-opened = refl
+
+new-hangs : hangsTogether new ≡ true
+unfolding inRange
+new-hangs = empty-hangs 10 0 refl
+
+module _ (jr : JournalRange) (whole : length (concatSeq jr) % 4064 ≡ 0) (few : length (concatSeq jr) ≤ 40640) where
+  abbrev all : List ℕ
+  all = concatSeq jr
+
+  unread : parsePayload all ≡ none → loaded jr ≡ refuses 14
+  unfolding loaded
+  unread e =
+      let refused = not-recovered new all [] all [] new-hangs whole refl (omega arith) (omega arith) (omega arith) (omega arith) all (ap parsePayload (append-nil all) ∙ e) in
+      rw (new-opened, refused)
+
+  read : (es : List JournalEntry) → parsePayload all ≡ some es → SumJournalEntries es ≤ length all → (more : ℕ) → length es + more ≡ length all → loaded jr ≡ gives es
+  unfolding loaded
+  read es e fits more most =
+      let r = recovers new all [] all [] new-hangs whole refl (omega arith) (omega arith) (omega arith) (omega arith) all es (ap parsePayload (append-nil all) ∙ e) fits in
+      let out : replayed (length all) (r .after) (r .buffer) ≡ es = ap (λ (n : ℕ). replayed n (r .after) (r .buffer)) (sym most) ∙ r .replays more in
+      rw (new-opened, r .accepted) (ap gives out)
 
 pub all-hold : AllHold cases
-unfolding word wire wires withinLimits readBytes readWord parseEntry readEntries parseEntries parseHeader parseJournalRangeOfBytes parseFrom parseJournalRange payload frontCall backCall nextStartCall locationCall ValidJournalInterval ContiguousJournalInterval JournalFrontInterval JournalBackInterval NextStartPoint
-all-hold = (refl, (refl, (refl, (refl, (refl, (refl, (refl, (refl, (refl, (refl, (refl, (refl, (refl, (refl, (refl, (refl, tt))))))))))))))))
+unfolding word wire wires withinLimits readBytes readWord parseEntry readEntries parseEntries parseHeader parseJournalRangeOfBytes parseFrom parseJournalRange parsePayload payload frontCall backCall nextStartCall locationCall ValidJournalInterval ContiguousJournalInterval JournalFrontInterval JournalBackInterval NextStartPoint
+all-hold = (
+  refl,
+  (
+    refl,
+    (
+      read _ refl (omega arith) [] refl (omega arith) 0 refl,
+      (
+        read _ refl (omega arith) [] refl (omega arith) 4064 refl,
+        (
+          unread _ refl (omega arith) refl,
+          (
+            read _ refl (omega arith) _ refl (omega arith) 4063 refl,
+            (
+              read _ refl (omega arith) _ refl (omega arith) 4063 refl,
+              (
+                unread _ refl (omega arith) refl,
+                (
+                  read _ refl (omega arith) _ refl (omega arith) 4063 refl,
+                  (
+                    unread _ refl (omega arith) refl,
+                    (refl, (refl, (refl, (refl, (refl, (refl, tt)))))),
+                  ),
+                ),
+              ),
+            ),
+          ),
+        ),
+      ),
+    ),
+  ),
+)

@@ -7,9 +7,13 @@ use lib.Dec.{leb, eqb}
 use native.Mathlib.Omega.{arith}
 use borrow.Author.Tests.{le-leb, lt-leb, lt-ltb, le-ltb, ne-eqb, leb-true, leb-false, eqb-true}
 use Rattle.disk_layout.specs.declared.JournalInterval.{JournalInterval}
-use Rattle.disk_layout.specs.JournalInterval.{interval, ValidJournalInterval, InCyclicRange, JournalFrontInterval, JournalBackInterval}
-use Rattle.refusals.proofs.Tests.{ltb-same}
-use Rattle.disk_layout.proofs.Intervals.{valid-facts}
+use Rattle.disk_layout.specs.DiskLayout.{blocksInRange, JournalRangeLocation}
+use Rattle.disk_layout.specs.JournalInterval.{interval, ValidJournalInterval, ContiguousJournalInterval, InCyclicRange, JournalFrontInterval, JournalBackInterval}
+use Rattle.disk_layout.specs.Calls.{frontCall, backCall, locationCall}
+use Rattle.refusals.specs.Outcome.{Outcome, gives, require_else_then_}
+use Rattle.refusals.proofs.Tests.{ltb-same, impossible}
+use Rattle.refusals.proofs.Outcomes.{gives-same, require-told}
+use Rattle.disk_layout.proofs.Intervals.{valid-facts, contiguous-true}
 
 -- the back by the room behind the start alone: no blocks are within any room
 pub back-none : (n start len : ℕ) → len ≤ n - start → JournalBackInterval n start len ≡ none
@@ -83,3 +87,56 @@ parts-blocks n start len k v h = go (eqb len 0) (leb len (n - start)) refl refl
           and-false,
           or-false,
         )
+
+-- Neither part wraps, so the location of neither is refused.
+
+front-contiguous : (n start len : ℕ) (i : JournalInterval) → ValidJournalInterval n (interval start len) ≡ true → JournalFrontInterval n start len ≡ some i
+    → ContiguousJournalInterval n i ≡ true
+unfolding JournalFrontInterval
+front-contiguous n start len i v e = go (eqb len 0) (leb len (n - start)) refl e
+  where
+    go : (s t : Bool) → leb len (n - start) ≡ t → cond s none (some (interval start (cond t len (n - start)))) ≡ some i → ContiguousJournalInterval n i ≡ true
+    go true t q e = impossible cc
+    go false true q e =
+        let f = valid-facts n (interval start len) v in
+        let l = leb-true len (n - start) q in
+        let is : interval start len ≡ i = cc in
+        rw (← is) (contiguous-true n (interval start len) (f .0) (omega arith))
+    go false false q e =
+        let f = valid-facts n (interval start len) v in
+        let is : interval start (n - start) ≡ i = cc in
+        rw (← is) (contiguous-true n (interval start (n - start)) (f .0) (omega arith))
+
+back-contiguous : (n start len : ℕ) (i : JournalInterval) → ValidJournalInterval n (interval start len) ≡ true → JournalBackInterval n start len ≡ some i
+    → ContiguousJournalInterval n i ≡ true
+unfolding JournalBackInterval
+back-contiguous n start len i v e = go (eqb len 0) (leb len (n - start)) e
+  where
+    go : (s t : Bool) → cond s none (cond t none (some (interval 0 (len - (n - start))))) ≡ some i → ContiguousJournalInterval n i ≡ true
+    go true t e = impossible cc
+    go false true e = impossible cc
+    go false false e =
+        let f = valid-facts n (interval start len) v in
+        let is : interval 0 (len - (n - start)) ≡ i = cc in
+        rw (← is) (contiguous-true n (interval 0 (len - (n - start))) (omega arith) (omega arith))
+
+-- a part that is there has a location
+abbrev pub Located : (n : ℕ) → Outcome (Option JournalInterval) → Type 0
+Located n call = (i : JournalInterval) → call ≡ gives (some i) → locationCall n i ≡ gives (JournalRangeLocation (i .start) (i .len))
+
+located : (n start len : ℕ) (part : Option JournalInterval)
+    → ((i : JournalInterval) → ValidJournalInterval n (interval start len) ≡ true → part ≡ some i → ContiguousJournalInterval n i ≡ true)
+    → Located n (require blocksInRange n else 1 then require ValidJournalInterval n (interval start len) else 16 then gives part)
+unfolding locationCall
+located n start len part contiguous i e =
+    require-told (blocksInRange n) 1 _ (some i) e λ range e₁.
+    require-told (ValidJournalInterval n (interval start len)) 16 (gives part) (some i) e₁ λ valid e₂.
+    rw (range, contiguous i valid (gives-same e₂))
+
+pub front-located : (n start len : ℕ) → Located n (frontCall n start len)
+unfolding frontCall
+front-located n start len = located n start len (JournalFrontInterval n start len) (front-contiguous n start len)
+
+pub back-located : (n start len : ℕ) → Located n (backCall n start len)
+unfolding backCall
+back-located n start len = located n start len (JournalBackInterval n start len) (back-contiguous n start len)
