@@ -1,4 +1,4 @@
-"""Feeds images to the lister and compares what it prints, byte for byte, with what the reader says.
+"""Feeds images to the lister and compares what it prints, byte for byte, with what the reader says; then has its input and its output fail.
 
 python3 tests/lister_test.py PATH_TO_LISTER [--many N] [--seed S]
 
@@ -14,6 +14,7 @@ import subprocess
 import sys
 import tempfile
 import time
+import tty
 
 sys.dont_write_bytecode = True      # nothing is left in the folder
 
@@ -102,10 +103,44 @@ def compare(path, number, image, rng):
     if ended.stdout != wanted:
         fail(number, image, 'printed (%s) %s\nthe reader says %s\nthey differ from byte %d on' % (
             feed.__name__, shown(ended.stdout), shown(wanted), first_difference(ended.stdout, wanted)))
-    if ended.returncode < 0:
-        fail(number, image, 'ended by signal %d (%s)' % (-ended.returncode, feed.__name__))
+    if ended.returncode != 0:
+        fail(number, image, 'ended with status %d (%s)' % (ended.returncode, feed.__name__))
     words = wanted.split(None, 2)
     return 'entries' if words[0] == b'entries' else b' '.join(words[:2]).decode()
+
+
+def broken_off(path, data):
+    """A terminal's side that gives the data and then fails: its other side is closed."""
+    side, other = os.openpty()
+    tty.setraw(other)
+    with subprocess.Popen([path], stdin=side, stdout=subprocess.PIPE, stderr=subprocess.PIPE) as process:
+        os.close(side)
+        while data:
+            data = data[os.write(other, data):]
+        os.close(other)
+        return (process.communicate(), process.returncode)
+
+
+def at_the_shell(path, redirected, image):
+    ended = subprocess.run(['sh', '-c', '"$0" ' + redirected, path], input=image, stdout=subprocess.PIPE, stderr=subprocess.PIPE)
+    return ((ended.stdout, ended.stderr), ended.returncode)
+
+
+def failing(path):
+    """An input that cannot be read is no empty image, and an output that takes nothing is said on standard error. The status is 0 all the same."""
+    image = writer.image(writer.batch([('I', b'ab', b'c')]))
+    listed, unread, untaken = reader.listing(image), b'unread\n', b'lister: the output was not taken\n'
+    for name, ended, wanted in (
+            ('nothing fails', at_the_shell(path, '', image), (listed, b'')),
+            ('an empty input', at_the_shell(path, '</dev/null', image), (b'entries 0\n', b'')),
+            ('a closed input', at_the_shell(path, '<&-', image), (unread, b'')),
+            ('a folder as input', at_the_shell(path, '</', image), (unread, b'')),
+            ('an input that fails behind an image', broken_off(path, image), (unread, b'')),
+            ('a full output', at_the_shell(path, '>/dev/full', image), (b'', untaken)),
+            ('a closed output', at_the_shell(path, '>&-', image), (b'', untaken)),
+            ('both closed', at_the_shell(path, '<&- >&-', image), (b'', untaken))):
+        if ended != (wanted, 0):
+            sys.exit('lister_test: FAILED: %s: %s, not %s' % (name, ended, (wanted, 0)))
 
 
 def main():
@@ -122,6 +157,9 @@ def main():
                 sys.exit('lister_test: FAILED: %s.crc32c of %s' % (crc32c.__module__, data.hex()))
 
     signal.signal(signal.SIGALRM, too_long)
+    signal.alarm(SECONDS)
+    failing(path)
+    signal.alarm(0)
     rng = random.Random(given.seed)
     kinds, outcomes, fed = (collections.Counter() for _ in range(3))
     began = time.monotonic()

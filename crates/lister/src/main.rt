@@ -1,9 +1,10 @@
-// Reads an image on standard input and prints its entries, or why it cannot: document 01, the end of "Cases".
+// Reads an image on standard input and prints its entries, or why it cannot: document 01, the end of "Cases". Where the input cannot be read it prints `unread`.
 ghost use mathlib.Core.Path.{_≡_};
 ghost use lib.ListN.{length};
 ghost use Rattle.lister.specs.Lister.{listedPayload, listedImage};
 use journal_image::Stripped;
 use journal_range::LoadRead;
+use libc::STDERR_FILENO;
 use libc::STDIN_FILENO;
 use libc::STDOUT_FILENO;
 use listing::Listed;
@@ -52,17 +53,36 @@ fn list_image(image: &[u8], payload: &mut [u8], replay: &mut [u8], text: &mut [u
     }
 }
 
+// Writes to standard output; where that does not take all, says so on standard error.
+fn say(text: &[u8]) {
+    if !io::write_all(STDOUT_FILENO, text) {
+        io::write_all(STDERR_FILENO, b"lister: the output was not taken\n");
+    }
+}
+
 fn print(listed: Listed, text: &[u8]) {
     if let Listed::Text(end) = listed {
         if end <= text.len() {
-            io::write_all(STDOUT_FILENO, &text[0..end]);
+            say(&text[0..end]);
         }
     }
+}
+
+// Whether standard input has ended, and not failed: one more read gives no byte and no error.
+fn at_end() -> bool {
+    let mut more = [0u8; 1];
+    libc::read(STDIN_FILENO, &mut more) == 0
 }
 
 fn main() {
     let mut image = io::large_buffer();
     let n = io::read_full(STDIN_FILENO, &mut image);
+    if n < 65536 {
+        if !at_end() {
+            say(b"unread\n");
+            return;
+        }
+    }
     let mut payload = [0u8; 60960];
     let mut replay = [0u8; 60960];
     let mut text = [0u8; 121952];
