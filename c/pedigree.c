@@ -60,7 +60,8 @@ int main(void) {
     to_card();
     must("append", insert("fish/19", "still in the ring"));
 
-    /* The power goes: the record and the ring are lost, the card is not. */
+    /* The power goes: the record and the ring are lost, the card is not. A station keeps which blocks are live on its card, stored after the
+     * image and a sync; here it is this number. */
     uint64_t blocks = words[JOURNAL_WRITTEN];
     memset(words, 0xff, sizeof words);
     memset(ring, 0xff, sizeof ring);
