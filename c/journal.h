@@ -1,4 +1,5 @@
-/* Nungakes for C: a proved journal for tagging units. Link with libjournal_c.a, which `rt staticlib journal_c` writes.
+/* Nungakes for C: a proved journal for tagging units. Link with libjournal_c.a, which `rt staticlib journal_c` writes: Linux objects for x86-64
+ * with SSE2, System V calls.
  *
  * Every function is proved to meet its contract whatever numbers and bytes it is handed. A slice is a pointer and a count of ELEMENTS. The
  * caller owes only this: pointers are valid for their counts and aligned for their type, the memory is initialised, and a slice that a
@@ -72,7 +73,9 @@ uint64_t journal_freeze(uint64_t *words, size_t words_len);
 uint64_t journal_set_written(uint64_t *words, size_t words_len, uint64_t len);
 uint64_t journal_update_written(uint64_t *words, size_t words_len, uint64_t len);
 
-/* Write the frozen list's image: 2, 8, 15, 9. Its blocks are what the word JOURNAL_WRITTEN grows by, before it JOURNAL_FROZEN_BLOCKS. */
+/* An image that is written to `out` is the caller's to store, and which blocks are live to keep: stored after the image and a sync, so that a
+ * power cut leaves the blocks before it, or those and the image.
+ * Write the frozen list's image: 2, 8, 15, 9. Its blocks are what the word JOURNAL_WRITTEN grows by, before it JOURNAL_FROZEN_BLOCKS. */
 uint64_t journal_package_frozen(uint64_t *words, size_t words_len, const uint8_t *ring, size_t ring_len, uint8_t *out, size_t out_len);
 /* Write the in-memory list's image, with nothing frozen: 2, 7, 8, 15, 9. Its blocks: (in-memory bytes + 8) / 4064, rounded up. */
 uint64_t journal_package_in_memory(uint64_t *words, size_t words_len, const uint8_t *ring, size_t ring_len, uint8_t *out, size_t out_len);
