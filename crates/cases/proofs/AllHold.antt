@@ -53,36 +53,28 @@ module _ (jr : JournalRange) (whole : length (concatSeq jr) % 4064 ≡ 0) (few :
       let out : replayed (length all) (r .after) (r .buffer) ≡ es = ap (λ (n : ℕ). replayed n (r .after) (r .buffer)) (sym most) ∙ r .replays more in
       rw (new-opened, r .accepted) (ap gives out)
 
+infixr 10 _also_
+-- one case, and the others
+_also_ : {A B : Type 0} → A → B → A × B
+_also_ a b = (a, b)
+
 pub all-hold : AllHold cases
 unfolding word wire wires withinLimits readBytes readWord parseEntry readEntries parseEntries parseHeader parseJournalRangeOfBytes parseFrom parseJournalRange parsePayload payload frontCall backCall nextStartCall locationCall ValidJournalInterval ContiguousJournalInterval JournalFrontInterval JournalBackInterval NextStartPoint
-all-hold = (
-  refl,
-  (
-    refl,
-    (
-      read _ refl (omega arith) [] refl (omega arith) 0 refl,
-      (
-        read _ refl (omega arith) [] refl (omega arith) 4064 refl,
-        (
-          unread _ refl (omega arith) refl,
-          (
-            read _ refl (omega arith) _ refl (omega arith) 4063 refl,
-            (
-              read _ refl (omega arith) _ refl (omega arith) 4063 refl,
-              (
-                unread _ refl (omega arith) refl,
-                (
-                  read _ refl (omega arith) _ refl (omega arith) 4063 refl,
-                  (
-                    unread _ refl (omega arith) refl,
-                    (refl, (refl, (refl, (refl, (refl, (refl, tt)))))),
-                  ),
-                ),
-              ),
-            ),
-          ),
-        ),
-      ),
-    ),
-  ),
-)
+all-hold =
+    refl
+    also refl
+    also read _ refl (omega arith) [] refl (omega arith) 0 refl
+    also read _ refl (omega arith) [] refl (omega arith) 4064 refl
+    also unread _ refl (omega arith) refl
+    also read _ refl (omega arith) _ refl (omega arith) 4063 refl
+    also read _ refl (omega arith) _ refl (omega arith) 4063 refl
+    also unread _ refl (omega arith) refl
+    also read _ refl (omega arith) _ refl (omega arith) 4063 refl
+    also unread _ refl (omega arith) refl
+    also refl
+    also refl
+    also refl
+    also refl
+    also refl
+    also refl
+    also tt
