@@ -15,7 +15,7 @@ run-append w [] ds = refl
 run-append w (c ∷ cs) ds = run-append (following w (toldOf c) (step c (w .journalist) (w .ring))) cs ds
 
 -- the same list in front
-front-off : {A : Type 0} (a b c : List A) → a ++ b ≡ a ++ c → b ≡ c
+pub front-off : {A : Type 0} (a b c : List A) → a ++ b ≡ a ++ c → b ≡ c
 front-off a b c e = sym (drop-append-seam a b) ∙ ap (drop (length a)) e ∙ drop-append-seam a c
 
 -- a call hands out no image, or one
