@@ -1,4 +1,5 @@
-"""Feeds images to the lister and compares what it prints, byte for byte, with what the reader says; then has its input and its output fail.
+"""Feeds images to the lister and compares what it prints, byte for byte, with what the reader says; and has its
+input and its output fail.
 
 python3 tests/lister_test.py PATH_TO_LISTER [--many N] [--seed S]
 
@@ -122,12 +123,14 @@ def broken_off(path, data):
 
 
 def at_the_shell(path, redirected, image):
-    ended = subprocess.run(['sh', '-c', '"$0" ' + redirected, path], input=image, stdout=subprocess.PIPE, stderr=subprocess.PIPE)
+    ended = subprocess.run(['sh', '-c', '"$0" ' + redirected, path], input=image,
+                           stdout=subprocess.PIPE, stderr=subprocess.PIPE)
     return ((ended.stdout, ended.stderr), ended.returncode)
 
 
 def failing(path):
-    """An input that cannot be read is no empty image, and an output that takes nothing is said on standard error. The status is 0 all the same."""
+    """An input that cannot be read is no empty image, and an output that takes nothing is said on standard error.
+    The status is 0 all the same."""
     image = writer.image(writer.batch([('I', b'ab', b'c')]))
     listed, unread, untaken = reader.listing(image), b'unread\n', b'lister: the output was not taken\n'
     for name, ended, wanted in (

@@ -11,7 +11,7 @@ use Rattle.journal_range.proofs.Payload.{parsePayload-nil, joining-payload}
 use Rattle.journal_range.proofs.Behind.{reads-behind}
 use Rattle.history.specs.History.{payloads}
 use Rattle.history.specs.Crash.{Replays}
-use Rattle.history.specs.Lives.{Life, OneMore, Lives, LivesRule}
+use Rattle.history.specs.Lives.{Life, Lives, LivesRule}
 use Rattle.history.proofs.Stretch.{front-off}
 use Rattle.history.proofs.Crash.{replays, entries-read}
 

@@ -12,7 +12,6 @@ use lib.ListN.{length, take, length-append}
 use lib.Seq.{take-append-le}
 use Rattle.words.specs.Lists.{chunks, concatSeq}
 use Rattle.journal_entry.specs.Entry.{JournalEntry}
-use Rattle.journal_entry.specs.Parse.{_>>=_, provided}
 use Rattle.journal_entry.proofs.Options.{bind-parts, provided-parts}
 use Rattle.journal_range.specs.Range.{JournalRange, parseHeader, parseJournalRangeOfBytes, parseFrom, parseJournalRange}
 use Rattle.journal_range.specs.Payload.{parsePayload}
