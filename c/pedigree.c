@@ -1,14 +1,14 @@
 /* The tour: a small pedigree is journalled, the power goes, and the pedigree is replayed.
  *
- * What was handed out as an image survives; what was still pending in the ring does not. A station's firmware would put the image on its
- * card where this program only keeps it in `card`. */
+ * What was handed out as an image survives; what was still pending in the ring does not. A station's firmware would
+ * put the image on its card where this program only keeps it in `card`. */
 #include <inttypes.h>
 #include <stdio.h>
 #include <stdlib.h>
 #include <string.h>
 #include "journal.h"
 
-enum { BLOCKS = 4, RING = 8192 };
+enum { BLOCKS = 4, RING = BLOCKS * JOURNAL_PAYLOAD };
 
 static uint64_t words[JOURNAL_WORDS];
 static uint8_t ring[RING];
@@ -17,25 +17,27 @@ static uint8_t front[BLOCKS * JOURNAL_PAYLOAD], back[BLOCKS * JOURNAL_PAYLOAD], 
 
 static void must(const char *what, uint64_t code) {
     if (code != 0) {
-        printf("%s refused: %" PRIu64 "\n", what, code & 255);
+        printf("%s refused: %" PRIu64 "\n", what, JOURNAL_NUMBER(code));
         exit(1);
     }
 }
 
 static uint64_t insert(const char *key, const char *value) {
-    return journal_append_insert(words, JOURNAL_WORDS, ring, RING, (const uint8_t *)key, strlen(key), (const uint8_t *)value, strlen(value));
+    return journal_append_insert(words, JOURNAL_WORDS, ring, RING, (const uint8_t *)key, strlen(key),
+        (const uint8_t *)value, strlen(value));
 }
 
 static uint64_t copy_line(const char *from, const char *to) {
-    return journal_append_clone(words, JOURNAL_WORDS, ring, RING, (const uint8_t *)from, strlen(from), (const uint8_t *)to, strlen(to));
+    return journal_append_clone(words, JOURNAL_WORDS, ring, RING, (const uint8_t *)from, strlen(from),
+        (const uint8_t *)to, strlen(to));
 }
 
 /* Hands out the frozen list's blocks behind those on the card. */
 static void to_card(void) {
-    uint64_t written = words[JOURNAL_WRITTEN];
+    uint64_t written = words[JOURNAL_WORD_WRITTEN];
     size_t at = written * JOURNAL_BLOCK;
     must("package", journal_package_frozen(words, JOURNAL_WORDS, ring, RING, card + at, sizeof card - at));
-    printf("on the card: %" PRIu64 " block(s)\n", words[JOURNAL_WRITTEN] - written);
+    printf("on the card: %" PRIu64 " block(s)\n", words[JOURNAL_WORD_WRITTEN] - written);
 }
 
 /* Prints the replay's entries, from the first to the last. */
@@ -43,13 +45,15 @@ static void print_replay(void) {
     uint64_t top[JOURNAL_TOP];
     uint64_t code;
     while ((code = journal_top(words, JOURNAL_WORDS, replay, sizeof replay, top, JOURNAL_TOP)) == 0) {
-        printf("%s %.*s %.*s\n", top[0] == JOURNAL_CLONE ? "clone " : "insert", (int)top[1], replay + top[2], (int)top[3], replay + top[4]);
+        printf("%s %.*s %.*s\n", top[0] == JOURNAL_CLONE ? "clone " : "insert", (int)top[1], replay + top[2],
+            (int)top[3], replay + top[4]);
         must("pop", journal_pop(words, JOURNAL_WORDS, replay, sizeof replay));
     }
-    printf("then %" PRIu64 ": nothing is left\n", code);
+    printf("then %" PRIu64 ": nothing is left\n", JOURNAL_NUMBER(code));
 }
 
-int main(void) {
+/* Two inserts go to the card, then a clone; a third insert is still in the ring. */
+static void journal_pedigree(void) {
     must("open", journal_open(words, JOURNAL_WORDS, BLOCKS, RING));
     must("append", insert("fish/17", "dam 4, sire 9"));
     must("append", insert("fish/18", "dam 4, sire 9"));
@@ -59,13 +63,18 @@ int main(void) {
     must("freeze", journal_freeze(words, JOURNAL_WORDS));
     to_card();
     must("append", insert("fish/19", "still in the ring"));
+}
 
-    /* The power goes: the record and the ring are lost, the card is not. A station keeps which blocks are live on its card, stored after the
-     * image and a sync; here it is this number. */
-    uint64_t blocks = words[JOURNAL_WRITTEN];
+int main(void) {
+    journal_pedigree();
+
+    /* The power goes: the record and the ring are lost, the card is not. A station keeps which blocks are live on its
+     * card, stored after the image and a sync; here it is this number. */
+    uint64_t blocks = words[JOURNAL_WORD_WRITTEN];
     memset(words, 0xff, sizeof words);
     memset(ring, 0xff, sizeof ring);
-    printf("a damaged record is refused: %" PRIu64 "\n", journal_freeze(words, JOURNAL_WORDS));
+    uint64_t code = journal_freeze(words, JOURNAL_WORDS);
+    printf("a damaged record is refused: %" PRIu64 "\n", JOURNAL_NUMBER(code));
 
     /* Strip checks every block. The payload is set as front, an empty one as back; both are loaded as one range. */
     uint8_t payload[BLOCKS * JOURNAL_PAYLOAD];
@@ -79,7 +88,7 @@ int main(void) {
 
     /* A flipped bit is found, and its block named. */
     card[JOURNAL_BLOCK + 100] ^= 1;
-    uint64_t code = journal_strip(card, blocks * JOURNAL_BLOCK, payload, sizeof payload);
-    printf("a flipped bit is refused: %" PRIu64 ", block %" PRIu64 "\n", code & 255, code >> 8);
+    code = journal_strip(card, blocks * JOURNAL_BLOCK, payload, sizeof payload);
+    printf("a flipped bit is refused: %" PRIu64 ", block %" PRIu64 "\n", JOURNAL_NUMBER(code), JOURNAL_BLOCK_OF(code));
     return 0;
 }

@@ -1,4 +1,5 @@
--- The starred cases hold: each range by computation whether it reads, and then by the laws of a recovery; the others by computation. Assumes nothing.
+-- The starred cases hold: each range by computation whether it reads, and then by the laws of a recovery; the
+-- others by computation. Assumes nothing.
 use mathlib.Core.Path.{_≡_, refl, sym, ap, _∙_}
 use mathlib.Core.Bool.{true}
 use mathlib.Core.List.{List, [], append-nil}
@@ -13,7 +14,8 @@ use Rattle.journal_entry.specs.Entry.{JournalEntry, SumJournalEntries, wire, wi
 use Rattle.journal_entry.specs.Parse.{readBytes, readWord, parseEntry, readEntries, parseEntries}
 use Rattle.journal_range.specs.Range.{JournalRange, parseHeader, parseJournalRangeOfBytes, parseFrom, parseJournalRange}
 use Rattle.journal_range.specs.Payload.{payload, parsePayload}
-use Rattle.disk_layout.specs.JournalInterval.{ValidJournalInterval, ContiguousJournalInterval, JournalFrontInterval, JournalBackInterval, NextStartPoint}
+use Rattle.disk_layout.specs.JournalInterval.{ValidJournalInterval, ContiguousJournalInterval, JournalFrontInterval}
+use Rattle.disk_layout.specs.JournalInterval.{JournalBackInterval, NextStartPoint}
 use Rattle.disk_layout.specs.Calls.{frontCall, backCall, nextStartCall, locationCall}
 use Rattle.journalist.specs.declared.Journalist.{Journalist}
 use Rattle.journalist.specs.Record.{inRange, hangsTogether}
@@ -43,14 +45,18 @@ module _ (jr : JournalRange) (whole : length (concatSeq jr) % 4064 ≡ 0) (few :
   unread : parsePayload all ≡ none → loaded jr ≡ refuses 14
   unfolding loaded
   unread e =
-      let refused = not-recovered new all [] all [] new-hangs whole refl (omega arith) (omega arith) (omega arith) (omega arith) all (ap parsePayload (append-nil all) ∙ e) in
+      let refused = not-recovered new all [] all [] new-hangs whole refl (omega arith) (omega arith) (omega arith)
+      (omega arith) all (ap parsePayload (append-nil all) ∙ e) in
       rw (new-opened, refused)
 
-  read : (es : List JournalEntry) → parsePayload all ≡ some es → SumJournalEntries es ≤ length all → (more : ℕ) → length es + more ≡ length all → loaded jr ≡ gives es
+  read : (es : List JournalEntry) → parsePayload all ≡ some es → SumJournalEntries es ≤ length all → (more : ℕ)
+      → length es + more ≡ length all → loaded jr ≡ gives es
   unfolding loaded
   read es e fits more most =
-      let r = recovers new all [] all [] new-hangs whole refl (omega arith) (omega arith) (omega arith) (omega arith) all es (ap parsePayload (append-nil all) ∙ e) fits in
-      let out : replayed (length all) (r .after) (r .buffer) ≡ es = ap (λ (n : ℕ). replayed n (r .after) (r .buffer)) (sym most) ∙ r .replays more in
+      let r = recovers new all [] all [] new-hangs whole refl (omega arith) (omega arith) (omega arith)
+      (omega arith) all es (ap parsePayload (append-nil all) ∙ e) fits in
+      let out : replayed (length all) (r .after) (r .buffer) ≡ es =
+      ap (λ (n : ℕ). replayed n (r .after) (r .buffer)) (sym most) ∙ r .replays more in
       rw (new-opened, r .accepted) (ap gives out)
 
 infixr 10 _also_
@@ -59,7 +65,9 @@ _also_ : {A B : Type 0} → A → B → A × B
 _also_ a b = (a, b)
 
 pub all-hold : AllHold cases
-unfolding word wire wires withinLimits readBytes readWord parseEntry readEntries parseEntries parseHeader parseJournalRangeOfBytes parseFrom parseJournalRange parsePayload payload frontCall backCall nextStartCall locationCall ValidJournalInterval ContiguousJournalInterval JournalFrontInterval JournalBackInterval NextStartPoint
+unfolding word wire wires withinLimits readBytes readWord parseEntry readEntries parseEntries parseHeader
+    parseJournalRangeOfBytes parseFrom parseJournalRange parsePayload payload frontCall backCall nextStartCall
+    locationCall ValidJournalInterval ContiguousJournalInterval JournalFrontInterval JournalBackInterval NextStartPoint
 all-hold =
     refl
     also refl

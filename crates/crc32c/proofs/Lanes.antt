@@ -1,5 +1,5 @@
--- Four bytes step the register as one number does, and by linearity what a word brings may be added later, stepped as far on:
--- so words can be taken in turn by registers that do not wait for each other. Assumes nothing.
+-- Four bytes step the register as one number does, and by linearity what a word brings may be added later, stepped
+-- as far on: so words can be taken in turn by registers that do not wait for each other. Assumes nothing.
 use mathlib.Core.Path.{_≡_, refl, sym, ap, ap₂, _∙_}
 use mathlib.Core.List.{List, [], _∷_, _++_, foldl, foldl-append}
 use Prim.Native.Nat.{ℕ, zero, suc, _+_, _-_, _*_, _/_, _%_, _≤_, _<_}
@@ -16,7 +16,8 @@ use Rattle.crc32c.specs.Lanes.{lanes}
 
 -- ---- bytes as one number
 
-pub over-bytes : (bs : List ℕ) → Bytes bs → (r : ℕ) → foldl stepByte r bs ≡ stepBits (8 * length bs) (bitXor r (unpack bs))
+pub over-bytes : (bs : List ℕ) → Bytes bs → (r : ℕ)
+    → foldl stepByte r bs ≡ stepBits (8 * length bs) (bitXor r (unpack bs))
 unfolding stepByte stepBits
 over-bytes [] bytes r = sym (xor-zero-r r)
 over-bytes (b ∷ bs) bytes r =
@@ -29,7 +30,8 @@ over-bytes (b ∷ bs) bytes r =
     ∙ sym (stepBits-later 8 (8 * length bs) r (b + 256 * unpack bs))
     ∙ ap (λ (k : ℕ). stepBits k (bitXor r (b + 256 * unpack bs))) bits
 
-over-word : (s : List ℕ) → Bytes s → 4 ≤ length s → (r : ℕ) → foldl stepByte r (take 4 s) ≡ stepBits 32 (bitXor r (unpack (take 4 s)))
+over-word : (s : List ℕ) → Bytes s → 4 ≤ length s → (r : ℕ)
+    → foldl stepByte r (take 4 s) ≡ stepBits 32 (bitXor r (unpack (take 4 s)))
 over-word s bytes h r =
     over-bytes (take 4 s) (bytes-take 4 s bytes) r
     ∙ ap (λ (n : ℕ). stepBits (8 * n) (bitXor r (unpack (take 4 s)))) (length-take-le 4 s h)
@@ -51,7 +53,8 @@ from-end c i s h = ap (foldl stepByte c) (drop-of-length-le s h)
 -- ---- a word as the code puts it together
 
 word-of-bytes : (i w : ℕ) (s : List ℕ) → i + 4 ≤ length s
-    → w ≡ unpack (getD s i 0 ∷ getD s (i + 1) 0 ∷ getD s (i + 2) 0 ∷ getD s (i + 3) 0 ∷ []) → w ≡ unpack (take 4 (drop i s))
+    → w ≡ unpack (getD s i 0 ∷ getD s (i + 1) 0 ∷ getD s (i + 2) 0 ∷ getD s (i + 3) 0 ∷ [])
+    → w ≡ unpack (take 4 (drop i s))
 word-of-bytes i w s h e = e ∙ ap unpack (sym (four i s h))
 
 -- ---- what is due
@@ -92,9 +95,12 @@ carry (d ∷ due) r x s bytes h =
     let after = foldl stepByte r (take 4 s) in
     let bits : 32 + 32 * (length due + 1) ≡ 32 * (suc (length due) + 1) = omega arith in
     ap (λ (y : ℕ). lanes (bitXor y d) due (drop 4 s)) (carry-word r x s bytes (omega arith))
-    ∙ ap (λ (y : ℕ). lanes y due (drop 4 s)) (xor-assoc after (stepBits 32 x) d ∙ ap (bitXor after) (xor-comm (stepBits 32 x) d) ∙ sym (xor-assoc after d (stepBits 32 x)))
+    ∙ ap (λ (y : ℕ). lanes y due (drop 4 s))
+    (xor-assoc after (stepBits 32 x) d ∙ ap (bitXor after) (xor-comm (stepBits 32 x) d)
+    ∙ sym (xor-assoc after d (stepBits 32 x)))
     ∙ carry due (bitXor after d) (stepBits 32 x) (drop 4 s) (bytes-drop 4 s bytes) (omega (arith, length-drop 4 s))
-    ∙ ap (λ (y : ℕ). lanes (bitXor after d) (due ++ (y ∷ [])) (drop 4 s)) (sym (stepBits-add 32 (32 * (length due + 1)) x) ∙ ap (λ (k : ℕ). stepBits k x) bits)
+    ∙ ap (λ (y : ℕ). lanes (bitXor after d) (due ++ (y ∷ [])) (drop 4 s))
+    (sym (stepBits-add 32 (32 * (length due + 1)) x) ∙ ap (λ (k : ℕ). stepBits k x) bits)
 
 -- one turn: the register takes a word, is stepped past the words of the others, and is due last
 pub turn : (a b next : ℕ) (due s : List ℕ) → Bytes s → 4 * (length due + 2) ≤ length s
@@ -104,9 +110,11 @@ unfolding lanes
 turn a b next due s bytes h e =
     let word = bitXor a (unpack (take 4 s)) in
     let bits : 32 * (length due + 2) ≡ 32 + 32 * (length due + 1) = omega arith in
-    ap (λ (y : ℕ). lanes b (due ++ (y ∷ [])) (drop 4 s)) (e ∙ ap (λ (k : ℕ). stepBits k word) bits ∙ stepBits-add 32 (32 * (length due + 1)) word)
+    ap (λ (y : ℕ). lanes b (due ++ (y ∷ [])) (drop 4 s))
+    (e ∙ ap (λ (k : ℕ). stepBits k word) bits ∙ stepBits-add 32 (32 * (length due + 1)) word)
     ∙ sym (carry due b (stepBits 32 word) (drop 4 s) (bytes-drop 4 s bytes) (omega (arith, length-drop 4 s)))
-    ∙ ap (λ (y : ℕ). lanes y due (drop 4 s)) (xor-comm b (stepBits 32 word) ∙ ap (λ (y : ℕ). bitXor y b) (sym (over-word s bytes (omega arith) a)))
+    ∙ ap (λ (y : ℕ). lanes y due (drop 4 s))
+    (xor-comm b (stepBits 32 word) ∙ ap (λ (y : ℕ). bitXor y b) (sym (over-word s bytes (omega arith) a)))
 
 -- the same at place i, with three that are due
 pub turn-at : (s : List ℕ) → Bytes s → (a b c d i w next : ℕ) → i + 16 ≤ length s
@@ -133,8 +141,10 @@ due-turn s bytes r b c d i w next h ew en =
     ∙ ap₂ (λ (x : ℕ) (l : List ℕ). lanes (bitXor x b) (c ∷ d ∷ []) l) stepped (sym (drop-drop 4 i s))
 
 -- and their end: fewer bytes than a word are left, and what is still due is added behind them
-pub due-end : (r b c d : ℕ) (t : List ℕ) → length t < 4 → bitXor (bitXor (bitXor (foldl stepByte r t) b) c) d ≡ lanes r (b ∷ c ∷ d ∷ []) t
+pub due-end : (r b c d : ℕ) (t : List ℕ) → length t < 4
+    → bitXor (bitXor (bitXor (foldl stepByte r t) b) c) d ≡ lanes r (b ∷ c ∷ d ∷ []) t
 unfolding lanes
 due-end r b c d t h =
     let short : length t ≤ 4 = omega arith in
-    sym (ap₂ (λ (l m : List ℕ). lanes (bitXor (foldl stepByte r l) b) (c ∷ d ∷ []) m) (take-all 4 t short) (drop-of-length-le t short))
+    sym (ap₂ (λ (l m : List ℕ). lanes (bitXor (foldl stepByte r l) b) (c ∷ d ∷ []) m) (take-all 4 t short)
+    (drop-of-length-le t short))

@@ -13,6 +13,7 @@ allOnes = 0xFFFF_FFFF
 unfoldable pub crc32cOf : List ℕ → ℕ
 crc32cOf bytes = bitXor (foldl stepByte allOnes bytes) allOnes
 
--- document 01, "The block": the payload's CRC-32C, lowest byte first, then 28 zero bytes (its figure for upstream's `crc32_c_padded`)
+-- document 01, "The block": the payload's CRC-32C, lowest byte first, then 28 zero bytes (its figure for upstream's
+-- `crc32_c_padded`)
 unfoldable pub checksumBytes : List ℕ → List ℕ
 checksumBytes payload = word (crc32cOf payload) ++ replicate 28 0

@@ -41,7 +41,8 @@ fn with_due(a: u32, b: u32, c: u32, d: u32, s: &[u8]) -> u32
     with_bytes(r, &s[i..]) ^ first ^ second ^ third
 }
 
-// The register with the bytes of s, a word at a turn. Four registers take the words in rotation, so that no look into the tables waits for the one before.
+// The register with the bytes of s, a word at a turn. Four registers take the words in rotation, so that no look
+// into the tables waits for the one before.
 fn with_words(register: u32, s: &[u8]) -> u32
     ensures { λ r. ⌜ r ≡ foldl stepByte register (now (s .entry)) ⌝ }
 {

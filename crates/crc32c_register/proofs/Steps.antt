@@ -1,5 +1,6 @@
--- The register's steps are linear over `bitXor`, and a number that is shifted up comes down again: so a number's low digit, of any width, and its other
--- digits step by themselves, each through a table of its own. Assumes nothing.
+-- The register's steps are linear over `bitXor`, and a number that is shifted up comes down again: so a number's
+-- low digit, of any width, and its other digits step by themselves, each through a table of its own. Assumes
+-- nothing.
 use mathlib.Core.Path.{_≡_, refl, sym, ap, ap₂, _∙_}
 use Prim.Native.Nat.{ℕ, zero, suc, _+_, _*_, _/_, _%_, _^_, _<_}
 use native.Mathlib.Nat.{mul-mod-left, zero-add, suc-add, mul-assoc, pow-suc, mod-lt}
@@ -62,14 +63,17 @@ stepBits-digit w m x =
     ap (stepBits (w + m)) (digits w x)
     ∙ stepBits-xor (w + m) (x / 2 ^ w * 2 ^ w) (x % 2 ^ w)
     ∙ xor-comm (stepBits (w + m) (x / 2 ^ w * 2 ^ w)) (stepBits (w + m) (x % 2 ^ w))
-    ∙ ap (bitXor (stepBits (w + m) (x % 2 ^ w))) (stepBits-add w m (x / 2 ^ w * 2 ^ w) ∙ ap (stepBits m) (stepBits-up w (x / 2 ^ w)))
+    ∙ ap (bitXor (stepBits (w + m) (x % 2 ^ w)))
+    (stepBits-add w m (x / 2 ^ w * 2 ^ w) ∙ ap (stepBits m) (stepBits-up w (x / 2 ^ w)))
 
 -- the same of what tables answered: t for the low digit, u for the others
-pub by-digit : (w m x : ℕ) {t u : ℕ} → t ≡ stepBits (w + m) (x % 2 ^ w) → u ≡ stepBits m (x / 2 ^ w) → bitXor t u ≡ stepBits (w + m) x
+pub by-digit : (w m x : ℕ) {t u : ℕ} → t ≡ stepBits (w + m) (x % 2 ^ w) → u ≡ stepBits m (x / 2 ^ w)
+    → bitXor t u ≡ stepBits (w + m) x
 by-digit w m x low high = ap₂ bitXor low high ∙ sym (stepBits-digit w m x)
 
 -- a byte's steps are those of its two halves
-pub by-halves : (register byte : ℕ) {half whole : ℕ} → half ≡ stepBits 4 (bitXor register byte) → whole ≡ stepBits 4 half → whole ≡ stepByte register byte
+pub by-halves : (register byte : ℕ) {half whole : ℕ} → half ≡ stepBits 4 (bitXor register byte)
+    → whole ≡ stepBits 4 half → whole ≡ stepByte register byte
 unfolding stepByte
 by-halves register byte first second =
     second ∙ ap (stepBits 4) first ∙ sym (stepBits-add 4 4 (bitXor register byte))

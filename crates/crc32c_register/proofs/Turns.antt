@@ -31,7 +31,8 @@ stepped-is zero r = refl
 stepped-is (suc n) r = stepped-is n (stepBit r)
 
 -- the arm's number is what its digit steps to: computed, once for each arm; a key is its digit with a 1 above it
-pub arm : (above n digit : ℕ) {key entry : ℕ} → digit + above ≡ key → T (eqb entry (stepped n (key - above))) → entry ≡ stepBits n digit
+pub arm : (above n digit : ℕ) {key entry : ℕ} → digit + above ≡ key → T (eqb entry (stepped n (key - above)))
+    → entry ≡ stepBits n digit
 arm above n digit {key} {entry} k right =
     let is : key - above ≡ digit = omega arith in
     eqb→eq entry (stepped n (key - above)) right ∙ stepped-is n (key - above) ∙ ap (stepBits n) is

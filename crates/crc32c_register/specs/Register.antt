@@ -1,4 +1,5 @@
--- The register of CRC-32C, bit by bit: RFC 3720, section 12.1. The Castagnoli polynomial 0x1EDC6F41, the lowest bit first. Assumes nothing.
+-- The register of CRC-32C, bit by bit: RFC 3720, section 12.1. The Castagnoli polynomial 0x1EDC6F41, the lowest bit
+-- first. Assumes nothing.
 use mathlib.Core.List.{List}
 use Prim.Native.Nat.{ℕ, zero, suc, _*_, _/_, _%_}
 use lib.Bits.{bitXor}

@@ -1,4 +1,5 @@
-// The register of CRC-32C: its steps as RFC 3720 has them, bit by bit, and a byte's and a word's by tables of half bytes.
+// The register of CRC-32C: its steps as RFC 3720 has them, bit by bit, and a byte's and a word's by tables of half
+// bytes.
 ghost use mathlib.Core.Path.{_≡_};
 ghost use Rattle.crc32c_register.specs.Register.{stepBit, stepBits, stepByte};
 

@@ -23,13 +23,15 @@ pub valid-true : (n : ℕ) (i : JournalInterval) → i .start < n → i .len ≤
 unfolding ValidJournalInterval
 valid-true n i s l = simp (lt-ltb (i .start) n s, le-leb (i .len) n l)
 
-pub contiguous-facts : (n : ℕ) (i : JournalInterval) → ContiguousJournalInterval n i ≡ true → (i .start < n) × (i .start + i .len ≤ n)
+pub contiguous-facts : (n : ℕ) (i : JournalInterval) → ContiguousJournalInterval n i ≡ true
+    → (i .start < n) × (i .start + i .len ≤ n)
 unfolding ContiguousJournalInterval
 contiguous-facts n i h =
     let p = both (ValidJournalInterval n i) (leb (i .start + i .len) n) h in
     (valid-facts n i (p .0) .0, leb-true (i .start + i .len) n (p .1))
 
-pub contiguous-true : (n : ℕ) (i : JournalInterval) → i .start < n → i .start + i .len ≤ n → ContiguousJournalInterval n i ≡ true
+pub contiguous-true : (n : ℕ) (i : JournalInterval) → i .start < n → i .start + i .len ≤ n
+    → ContiguousJournalInterval n i ≡ true
 unfolding ContiguousJournalInterval
 contiguous-true n i s e = simp (valid-true n i s (omega arith), le-leb (i .start + i .len) n e)
 
@@ -40,7 +42,8 @@ pub record BothValid (n : ℕ) (a b : JournalInterval) : Type 0 where
   pub b-start : b .start < n
   pub b-len : b .len ≤ n
 
-pub both-facts : (n : ℕ) (a b : JournalInterval) → (ValidJournalInterval n a && ValidJournalInterval n b) ≡ true → BothValid n a b
+pub both-facts : (n : ℕ) (a b : JournalInterval) → (ValidJournalInterval n a && ValidJournalInterval n b) ≡ true
+    → BothValid n a b
 both-facts n a b h =
     let p = both (ValidJournalInterval n a) (ValidJournalInterval n b) h in
     let f = valid-facts n a (p .0) in
@@ -48,7 +51,8 @@ both-facts n a b h =
     record { a-start = f .0; a-len = f .1; b-start = g .0; b-len = g .1 }
 
 -- an interval does not wrap where its length is within the room behind its start
-pub contiguous-room : (n : ℕ) (i : JournalInterval) → i .start < n → leb (i .len) (n - i .start) ≡ ContiguousJournalInterval n i
+pub contiguous-room : (n : ℕ) (i : JournalInterval) → i .start < n
+    → leb (i .len) (n - i .start) ≡ ContiguousJournalInterval n i
 contiguous-room n i s =
     same (leb (i .len) (n - i .start)) (ContiguousJournalInterval n i)
     (λ h. contiguous-true n i s (omega (arith, leb-true (i .len) (n - i .start) h)))

@@ -7,7 +7,8 @@ use native.Mathlib.Omega.{arith}
 use borrow.Author.Tests.{leb-true, ltb-true, eqb-true, le-leb, lt-ltb, le-ltb, eq-eqb}
 use Rattle.disk_layout.specs.declared.Location.{Location}
 use Rattle.disk_layout.specs.declared.JournalInterval.{JournalInterval}
-use Rattle.disk_layout.specs.DiskLayout.{blocksInRange, JournalStartAddr, JournalEndAddr, JournalPoint, ValidJournalLocation, JournalRangeLocation}
+use Rattle.disk_layout.specs.DiskLayout.{blocksInRange, JournalStartAddr, JournalEndAddr, JournalPoint}
+use Rattle.disk_layout.specs.DiskLayout.{ValidJournalLocation, JournalRangeLocation}
 use Rattle.disk_layout.specs.JournalInterval.{interval, ContiguousJournalInterval, JournalIntervalOfLocation}
 use Rattle.refusals.proofs.Tests.{both, same, never}
 use Rattle.disk_layout.proofs.Intervals.{range-facts, contiguous-facts, contiguous-true}
@@ -63,31 +64,37 @@ pub location-none : (n : ℕ) (loc : Location) → (InRegion n loc → ⊥) → 
 location-none n loc f = sym (never (ValidJournalLocation n loc) (λ h. f (location-facts n loc h)))
 
 -- nor where it starts past the region
-pub location-past : (n : ℕ) (loc : Location) → (2 + n) * 4096 ≤ loc .addr → ltb (loc .addr) ((2 + n) * 4096) ≡ ValidJournalLocation n loc
+pub location-past : (n : ℕ) (loc : Location) → (2 + n) * 4096 ≤ loc .addr
+    → ltb (loc .addr) ((2 + n) * 4096) ≡ ValidJournalLocation n loc
 location-past n loc h = le-ltb (loc .addr) ((2 + n) * 4096) h ∙ location-none n loc (λ f. omega (arith, f .high))
 
 -- whole blocks that start in the region are valid where their bytes are within those left behind the address
-pub location-room : (n : ℕ) (loc : Location) → n ≤ 1024 → loc .addr % 4096 ≡ 0 → loc .len % 4096 ≡ 0 → 8192 ≤ loc .addr → loc .addr < (2 + n) * 4096 → leb (loc .len) ((2 + n) * 4096 - loc .addr) ≡ ValidJournalLocation n loc
+pub location-room : (n : ℕ) (loc : Location) → n ≤ 1024 → loc .addr % 4096 ≡ 0 → loc .len % 4096 ≡ 0
+    → 8192 ≤ loc .addr → loc .addr < (2 + n) * 4096
+    → leb (loc .len) ((2 + n) * 4096 - loc .addr) ≡ ValidJournalLocation n loc
 location-room n loc h a l s e =
     same (leb (loc .len) ((2 + n) * 4096 - loc .addr)) (ValidJournalLocation n loc)
     (λ t. location-true n loc h (omega (arith, leb-true (loc .len) ((2 + n) * 4096 - loc .addr) t)))
     (λ t. le-leb (loc .len) ((2 + n) * 4096 - loc .addr) (omega (arith, location-facts n loc t)))
 
 -- an interval that does not wrap has a valid location
-pub location-valid : (n : ℕ) (i : JournalInterval) → blocksInRange n ≡ true → ContiguousJournalInterval n i ≡ true → ValidJournalLocation n (JournalRangeLocation (i .start) (i .len)) ≡ true
+pub location-valid : (n : ℕ) (i : JournalInterval) → blocksInRange n ≡ true → ContiguousJournalInterval n i ≡ true
+    → ValidJournalLocation n (JournalRangeLocation (i .start) (i .len)) ≡ true
 location-valid n i h v =
     let r = range-facts n h in
     let f = contiguous-facts n i v in
     location-true n (JournalRangeLocation (i .start) (i .len)) (r .1) (omega arith)
 
 -- a valid location's interval does not wrap
-pub interval-contiguous : (n : ℕ) (loc : Location) → ValidJournalLocation n loc ≡ true → ContiguousJournalInterval n (JournalIntervalOfLocation loc) ≡ true
+pub interval-contiguous : (n : ℕ) (loc : Location) → ValidJournalLocation n loc ≡ true
+    → ContiguousJournalInterval n (JournalIntervalOfLocation loc) ≡ true
 interval-contiguous n loc v =
     let f = location-facts n loc v in
     contiguous-true n (JournalIntervalOfLocation loc) (omega arith) (omega arith)
 
 -- a valid location is that of its interval
-pub location-of-interval : (n : ℕ) (loc : Location) → ValidJournalLocation n loc ≡ true → JournalRangeLocation (JournalIntervalOfLocation loc .start) (JournalIntervalOfLocation loc .len) ≡ loc
+pub location-of-interval : (n : ℕ) (loc : Location) → ValidJournalLocation n loc ≡ true
+    → JournalRangeLocation (JournalIntervalOfLocation loc .start) (JournalIntervalOfLocation loc .len) ≡ loc
 location-of-interval n loc v =
     let f = location-facts n loc v in
     let a : JournalPoint ((loc .addr - 8192) / 4096) ≡ loc .addr = omega arith in
@@ -95,12 +102,14 @@ location-of-interval n loc v =
     rw (a, l)
 
 -- an interval is that of its location
-pub interval-of-location : (start len : ℕ) → JournalIntervalOfLocation (JournalRangeLocation start len) ≡ interval start len
+pub interval-of-location : (start len : ℕ)
+    → JournalIntervalOfLocation (JournalRangeLocation start len) ≡ interval start len
 interval-of-location start len =
     let s : (JournalPoint start - 8192) / 4096 ≡ start = omega arith in
     let l : len * 4096 / 4096 ≡ len = omega arith in
     rw (s, l)
 
 -- a valid location lies between the region's first byte and its end
-pub location-between : (n : ℕ) (loc : Location) → ValidJournalLocation n loc ≡ true → (JournalStartAddr ≤ loc .addr) × (loc .addr + loc .len ≤ JournalEndAddr n)
+pub location-between : (n : ℕ) (loc : Location) → ValidJournalLocation n loc ≡ true
+    → (JournalStartAddr ≤ loc .addr) × (loc .addr + loc .len ≤ JournalEndAddr n)
 location-between n loc h = let f = location-facts n loc h in (f .low, omega arith)

@@ -6,12 +6,15 @@ use lib.Dec.{ltb, eqb}
 use native.Mathlib.Omega.{arith}
 use borrow.Author.Tests.{le-leb, lt-leb, lt-ltb, le-ltb, ne-eqb, ltb-true, ltb-false, eqb-true, eqb-false}
 use Rattle.disk_layout.specs.declared.JournalInterval.{JournalInterval}
-use Rattle.disk_layout.specs.JournalInterval.{interval, ValidJournalInterval, InCyclicRange, journalIntervalOverlap, wrappedOverlap, journalCyclicIntervalOverlap}
+use Rattle.disk_layout.specs.JournalInterval.{interval, ValidJournalInterval, InCyclicRange}
+use Rattle.disk_layout.specs.JournalInterval.{journalIntervalOverlap, wrappedOverlap}
+use Rattle.disk_layout.specs.JournalInterval.{journalCyclicIntervalOverlap}
 use Rattle.refusals.proofs.Tests.{ltb-same}
 use Rattle.disk_layout.proofs.Intervals.{valid-facts}
 
 -- overlap does not look at the order of its two intervals
-pub overlap-symmetric : (n : ℕ) (a b : JournalInterval) → journalCyclicIntervalOverlap n a b ≡ journalCyclicIntervalOverlap n b a
+pub overlap-symmetric : (n : ℕ) (a b : JournalInterval)
+    → journalCyclicIntervalOverlap n a b ≡ journalCyclicIntervalOverlap n b a
 unfolding journalCyclicIntervalOverlap journalIntervalOverlap
 overlap-symmetric n a b = go (ltb n (a .start + a .len)) (ltb n (b .start + b .len))
   where
@@ -37,7 +40,8 @@ unfolding journalCyclicIntervalOverlap wrappedOverlap journalIntervalOverlap InC
 empty-overlap n s b h v = go (ltb n (b .start + b .len)) (ltb (b .start) s) (eqb s (b .start)) refl refl refl
   where
     go : (w x z : Bool) → ltb n (b .start + b .len) ≡ w → ltb (b .start) s ≡ x → eqb s (b .start) ≡ z →
-        journalCyclicIntervalOverlap n (interval s 0) b ≡ (not (eqb s 0) && (InCyclicRange n s b && not (eqb s (b .start))))
+        journalCyclicIntervalOverlap n (interval s 0) b
+        ≡ (not (eqb s 0) && (InCyclicRange n s b && not (eqb s (b .start))))
     go true true z p q r =
         let f = valid-facts n b v in
         let k = ltb-true n (b .start + b .len) p in

@@ -8,7 +8,8 @@ use native.Mathlib.Omega.{arith}
 use borrow.Author.Tests.{le-leb, lt-leb, lt-ltb, le-ltb, ne-eqb, leb-true, leb-false, eqb-true}
 use Rattle.disk_layout.specs.declared.JournalInterval.{JournalInterval}
 use Rattle.disk_layout.specs.DiskLayout.{blocksInRange, JournalRangeLocation}
-use Rattle.disk_layout.specs.JournalInterval.{interval, ValidJournalInterval, ContiguousJournalInterval, InCyclicRange, JournalFrontInterval, JournalBackInterval}
+use Rattle.disk_layout.specs.JournalInterval.{interval, ValidJournalInterval, ContiguousJournalInterval}
+use Rattle.disk_layout.specs.JournalInterval.{InCyclicRange, JournalFrontInterval, JournalBackInterval}
 use Rattle.disk_layout.specs.Calls.{frontCall, backCall, locationCall}
 use Rattle.refusals.specs.Outcome.{Outcome, gives, require_else_then_}
 use Rattle.refusals.proofs.Tests.{ltb-same, impossible}
@@ -25,7 +26,8 @@ back-none n start len h = go (eqb len 0)
     go false = simp (le-leb len (n - start) h)
 
 -- the rest past that room
-pub back-some : (n start len : ℕ) → n - start < len → JournalBackInterval n start len ≡ some (interval 0 (len - (n - start)))
+pub back-some : (n start len : ℕ) → n - start < len
+    → JournalBackInterval n start len ≡ some (interval 0 (len - (n - start)))
 unfolding JournalBackInterval
 back-some n start len h = simp (ne-eqb len 0 (λ z. omega arith), lt-leb len (n - start) h)
 
@@ -40,7 +42,8 @@ inPart n k none = false
 inPart n k (some i) = InCyclicRange n k i
 
 -- the parts have as many blocks as the interval
-pub parts-length : (n start len : ℕ) → lengthOf (JournalFrontInterval n start len) + lengthOf (JournalBackInterval n start len) ≡ len
+pub parts-length : (n start len : ℕ)
+    → lengthOf (JournalFrontInterval n start len) + lengthOf (JournalBackInterval n start len) ≡ len
 unfolding JournalFrontInterval JournalBackInterval
 parts-length n start len = go (eqb len 0) (leb len (n - start)) refl refl
   where
@@ -54,7 +57,8 @@ parts-length n start len = go (eqb len 0) (leb len (n - start)) refl refl
 
 -- and the same blocks
 pub parts-blocks : (n start len k : ℕ) → ValidJournalInterval n (interval start len) ≡ true → k < n →
-    InCyclicRange n k (interval start len) ≡ (inPart n k (JournalFrontInterval n start len) || inPart n k (JournalBackInterval n start len))
+    InCyclicRange n k (interval start len)
+    ≡ (inPart n k (JournalFrontInterval n start len) || inPart n k (JournalBackInterval n start len))
 unfolding JournalFrontInterval JournalBackInterval InCyclicRange
 parts-blocks n start len k v h = go (eqb len 0) (leb len (n - start)) refl refl
   where
@@ -90,12 +94,14 @@ parts-blocks n start len k v h = go (eqb len 0) (leb len (n - start)) refl refl
 
 -- Neither part wraps, so the location of neither is refused.
 
-front-contiguous : (n start len : ℕ) (i : JournalInterval) → ValidJournalInterval n (interval start len) ≡ true → JournalFrontInterval n start len ≡ some i
+front-contiguous : (n start len : ℕ) (i : JournalInterval) → ValidJournalInterval n (interval start len) ≡ true
+    → JournalFrontInterval n start len ≡ some i
     → ContiguousJournalInterval n i ≡ true
 unfolding JournalFrontInterval
 front-contiguous n start len i v e = go (eqb len 0) (leb len (n - start)) refl e
   where
-    go : (s t : Bool) → leb len (n - start) ≡ t → cond s none (some (interval start (cond t len (n - start)))) ≡ some i → ContiguousJournalInterval n i ≡ true
+    go : (s t : Bool) → leb len (n - start) ≡ t
+        → cond s none (some (interval start (cond t len (n - start)))) ≡ some i → ContiguousJournalInterval n i ≡ true
     go true t q e = impossible cc
     go false true q e =
         let f = valid-facts n (interval start len) v in
@@ -107,12 +113,14 @@ front-contiguous n start len i v e = go (eqb len 0) (leb len (n - start)) refl e
         let is : interval start (n - start) ≡ i = cc in
         rw (← is) (contiguous-true n (interval start (n - start)) (f .0) (omega arith))
 
-back-contiguous : (n start len : ℕ) (i : JournalInterval) → ValidJournalInterval n (interval start len) ≡ true → JournalBackInterval n start len ≡ some i
+back-contiguous : (n start len : ℕ) (i : JournalInterval) → ValidJournalInterval n (interval start len) ≡ true
+    → JournalBackInterval n start len ≡ some i
     → ContiguousJournalInterval n i ≡ true
 unfolding JournalBackInterval
 back-contiguous n start len i v e = go (eqb len 0) (leb len (n - start)) e
   where
-    go : (s t : Bool) → cond s none (cond t none (some (interval 0 (len - (n - start))))) ≡ some i → ContiguousJournalInterval n i ≡ true
+    go : (s t : Bool) → cond s none (cond t none (some (interval 0 (len - (n - start))))) ≡ some i
+        → ContiguousJournalInterval n i ≡ true
     go true t e = impossible cc
     go false true e = impossible cc
     go false false e =
@@ -122,11 +130,14 @@ back-contiguous n start len i v e = go (eqb len 0) (leb len (n - start)) e
 
 -- a part that is there has a location
 abbrev pub Located : (n : ℕ) → Outcome (Option JournalInterval) → Type 0
-Located n call = (i : JournalInterval) → call ≡ gives (some i) → locationCall n i ≡ gives (JournalRangeLocation (i .start) (i .len))
+Located n call = (i : JournalInterval) → call ≡ gives (some i)
+    → locationCall n i ≡ gives (JournalRangeLocation (i .start) (i .len))
 
 located : (n start len : ℕ) (part : Option JournalInterval)
-    → ((i : JournalInterval) → ValidJournalInterval n (interval start len) ≡ true → part ≡ some i → ContiguousJournalInterval n i ≡ true)
-    → Located n (require blocksInRange n else 1 then require ValidJournalInterval n (interval start len) else 16 then gives part)
+    → ((i : JournalInterval) → ValidJournalInterval n (interval start len) ≡ true → part ≡ some i
+    → ContiguousJournalInterval n i ≡ true)
+    → Located n (require blocksInRange n else 1 then require ValidJournalInterval n (interval start len)
+    else 16 then gives part)
 unfolding locationCall
 located n start len part contiguous i e =
     require-told (blocksInRange n) 1 _ (some i) e λ range e₁.

@@ -1,4 +1,5 @@
--- What each call comes to: document 01, "Places in the region" and the row "places 1, 16" of "When a call says no". Assumes nothing.
+-- What each call comes to: document 01, "Places in the region" and the row "places 1, 16" of "When a call says no".
+-- Assumes nothing.
 use mathlib.Core.Bool.{Bool, _&&_}
 use mathlib.Core.Option.{Option}
 use Prim.Native.Nat.{ℕ}
@@ -7,7 +8,10 @@ use Rattle.refusals.specs.Outcome.{Outcome, gives, require_else_then_}
 use Rattle.disk_layout.specs.declared.JournalInterval.{JournalInterval}
 use Rattle.disk_layout.specs.declared.Location.{Location}
 use Rattle.disk_layout.specs.DiskLayout.{blocksInRange, JournalPoint, ValidJournalLocation, JournalRangeLocation}
-use Rattle.disk_layout.specs.JournalInterval.{interval, ValidJournalInterval, ContiguousJournalInterval, JournalFrontInterval, JournalBackInterval, subinterval, journalCyclicIntervalOverlap, NextStartPoint, JournalIntervalOfLocation}
+use Rattle.disk_layout.specs.JournalInterval.{interval, ValidJournalInterval, ContiguousJournalInterval}
+use Rattle.disk_layout.specs.JournalInterval.{JournalFrontInterval, JournalBackInterval, subinterval}
+use Rattle.disk_layout.specs.JournalInterval.{journalCyclicIntervalOverlap, NextStartPoint}
+use Rattle.disk_layout.specs.JournalInterval.{JournalIntervalOfLocation}
 
 -- where block i lies; point N is the region's end
 unfoldable pub pointCall : (n point : ℕ) → Outcome ℕ

@@ -1,5 +1,6 @@
--- Addresses of the journal's blocks: BlockCacheSystem/DiskLayout.i.dfy, its journal part, with N (here n) for `NumJournalBlocks()`.
--- Superblocks, indirection tables and node locations are left out (document 01, "Places in the region"). Assumes nothing.
+-- Addresses of the journal's blocks: BlockCacheSystem/DiskLayout.i.dfy, its journal part, with N (here n) for
+-- `NumJournalBlocks()`. Superblocks, indirection tables and node locations are left out (document 01, "Places in
+-- the region"). Assumes nothing.
 use mathlib.Core.Bool.{Bool, _&&_}
 use Prim.Native.Nat.{ℕ, _+_, _-_, _*_, _/_, _%_}
 use lib.Dec.{leb, ltb, eqb}

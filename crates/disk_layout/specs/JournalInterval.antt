@@ -1,4 +1,5 @@
--- Cyclic intervals of the journal's blocks: BlockCacheSystem/JournalInterval.i.dfy, with N (here n) for `NumJournalBlocks()`. Assumes nothing.
+-- Cyclic intervals of the journal's blocks: BlockCacheSystem/JournalInterval.i.dfy, with N (here n) for
+-- `NumJournalBlocks()`. Assumes nothing.
 use mathlib.Core.Bool.{Bool, true, _&&_, _||_, cond}
 use mathlib.Core.Option.{Option, none, some}
 use Prim.Native.Nat.{ℕ, _+_, _-_, _/_}
@@ -48,7 +49,8 @@ journalIntervalOverlap a b = ltb (b .start) (a .start + a .len) && ltb (a .start
 -- overlap of an interval that wraps, taken as its two parts, with one that does not
 unfoldable pub wrappedOverlap : (n : ℕ) → JournalInterval → JournalInterval → Bool
 wrappedOverlap n a b =
-    journalIntervalOverlap (interval (a .start) (n - a .start)) b || journalIntervalOverlap (interval 0 (a .len - (n - a .start))) b
+    journalIntervalOverlap (interval (a .start) (n - a .start)) b
+    || journalIntervalOverlap (interval 0 (a .len - (n - a .start))) b
 
 -- overlap: two that wrap always do, since both hold block 0
 unfoldable pub journalCyclicIntervalOverlap : (n : ℕ) → JournalInterval → JournalInterval → Bool

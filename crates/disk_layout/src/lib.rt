@@ -1,13 +1,18 @@
 // Places in the region: intervals of the journal's blocks, which wrap at the region's end, and their bytes' addresses.
-// Every argument may be any 64-bit number. A call first tests N (refusal 1), then the interval or the location (refusal 16).
+// Every argument may be any 64-bit number. A call first tests N (refusal 1), then the interval or the location
+// (refusal 16).
 ghost use mathlib.Core.Path.{_≡_};
 ghost use mathlib.Core.Bool.{true, _&&_};
 ghost use Prim.Native.Nat.{_+_, _≤_, _<_};
 ghost use lib.Dec.{leb};
 ghost use Rattle.disk_layout.specs.DiskLayout.{blocksInRange, ValidJournalLocation};
-ghost use Rattle.disk_layout.specs.JournalInterval.{ValidJournalInterval, ContiguousJournalInterval, interval, journalIntervalOverlap, wrappedOverlap, journalCyclicIntervalOverlap, subinterval};
-ghost use Rattle.disk_layout.specs.Answers.{partOutcome, intervalOutcome, locationOutcome, numberOutcome, testOutcome};
-ghost use Rattle.disk_layout.specs.Calls.{pointCall, frontCall, backCall, nextStartCall, subintervalCall, overlapCall, locationCall, intervalCall};
+ghost use Rattle.disk_layout.specs.JournalInterval.{ValidJournalInterval, ContiguousJournalInterval, interval};
+ghost use Rattle.disk_layout.specs.JournalInterval.{journalIntervalOverlap, wrappedOverlap};
+ghost use Rattle.disk_layout.specs.JournalInterval.{journalCyclicIntervalOverlap, subinterval};
+ghost use Rattle.disk_layout.specs.Answers.{partOutcome, intervalOutcome, locationOutcome, numberOutcome};
+ghost use Rattle.disk_layout.specs.Answers.{testOutcome};
+ghost use Rattle.disk_layout.specs.Calls.{pointCall, frontCall, backCall, nextStartCall, subintervalCall};
+ghost use Rattle.disk_layout.specs.Calls.{overlapCall, locationCall, intervalCall};
 use refusals::Refusal;
 
 // So many blocks from a block on; behind block N - 1 comes block 0.
@@ -68,14 +73,16 @@ fn both_valid(n: u64, a: JournalInterval, b: JournalInterval) -> bool
     valid_interval(n, a) && valid_interval(n, b)
 }
 
-// Whether the interval is valid and does not wrap. A sum of two 64-bit numbers may, so the room behind the start is compared.
+// Whether the interval is valid and does not wrap. A sum of two 64-bit numbers may, so the room behind the start is
+// compared.
 fn contiguous_interval(n: u64, i: JournalInterval) -> bool
     ensures { λ r. ⌜ r ≡ ContiguousJournalInterval n i ⌝ }
 {
     i.start < n && i.len <= n - i.start
 }
 
-// Whether the location is whole blocks of the region. Its end may wrap too, so the bytes left behind the address are compared.
+// Whether the location is whole blocks of the region. Its end may wrap too, so the bytes left behind the address
+// are compared.
 fn valid_location(n: u64, loc: Location) -> bool
     requires { ⌜ n ≤ 1024 ⌝ }
     ensures { λ r. ⌜ r ≡ ValidJournalLocation n loc ⌝ }

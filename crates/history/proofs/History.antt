@@ -10,14 +10,17 @@ use Rattle.journalist.specs.declared.Journalist.{Journalist}
 use Rattle.journalist.specs.Calls.{openCall}
 use Rattle.journalist.specs.Record.{hangsTogether}
 use Rattle.journalist.specs.Package.{frozenRead, memoryRead}
-use Rattle.history.specs.Calls.{Call, append, freeze, packageFrozenJournal, packageInMemoryJournal, setWrittenJournalLen, updateWrittenJournalLen, setFront, setBack, parseJournals, replayJournalTop, replayJournalPop, query, toldOf, step}
+use Rattle.history.specs.Calls.{Call, append, freeze, packageFrozenJournal, packageInMemoryJournal}
+use Rattle.history.specs.Calls.{setWrittenJournalLen, updateWrittenJournalLen, setFront, setBack, parseJournals}
+use Rattle.history.specs.Calls.{replayJournalTop, replayJournalPop, query, toldOf, step}
 use Rattle.history.specs.History.{World, opened, following, run, History}
 use Rattle.history.proofs.Invariant.{Invariant, at-opening}
 use Rattle.history.proofs.Steps.{after-append, after-freeze, after-set, after-update}
 use Rattle.history.proofs.Packaging.{frozen-reads, memory-reads, after-package-frozen, after-package-in-memory}
 use Rattle.history.proofs.Others.{after-query, after-top, after-pop, after-front, after-back, after-load}
 
-after-step : (n : ℕ) (w : World) → Invariant n w → (c : Call) → Invariant n (following w (toldOf c) (step c (w .journalist) (w .ring)))
+after-step : (n : ℕ) (w : World) → Invariant n w → (c : Call)
+    → Invariant n (following w (toldOf c) (step c (w .journalist) (w .ring)))
 after-step n w i (append e) = after-append n w i e
 after-step n w i freeze = after-freeze n w i
 after-step n w i (packageFrozenJournal out) = after-package-frozen n w i out
@@ -34,7 +37,8 @@ after-step n w i (query q) = after-query n w i q
 after-run : (n : ℕ) (w : World) (cs : List Call) → Invariant n w → Invariant n (run w cs)
 unfolding run
 after-run n w [] i = i
-after-run n w (c ∷ cs) i = after-run n (following w (toldOf c) (step c (w .journalist) (w .ring))) cs (after-step n w i c)
+after-run n w (c ∷ cs) i = after-run n (following w (toldOf c) (step c (w .journalist) (w .ring))) cs
+    (after-step n w i c)
 
 -- THE HISTORY RULE
 pub history : History
@@ -44,8 +48,8 @@ history n r j ring cs o long =
     holds : (l : List Call) → Invariant n (run (opened j ring) l)
     holds l = after-run n (opened j ring) l (at-opening n r j ring o long)
 
--- Beside the rule: in a history no call is refused with 2 for the record or the ring, nor with 15. (The rule alone would hold of a `hangsTogether` that
--- refused every record.)
+-- Beside the rule: in a history no call is refused with 2 for the record or the ring, nor with 15. (The rule alone
+-- would hold of a `hangsTogether` that refused every record.)
 pub record InOrder (w : World) : Type 0 where
   pub hangs : hangsTogether (w .journalist) ≡ true
   pub ring-long : length (w .ring) ≡ w .journalist .ring

@@ -1,4 +1,5 @@
--- A stretch of a history: any first images of a run are those of its first calls, since a call hands out one image at most. Assumes nothing.
+-- A stretch of a history: any first images of a run are those of its first calls, since a call hands out one image
+-- at most. Assumes nothing.
 use mathlib.Core.Path.{_≡_, refl, sym, ap, _∙_}
 use mathlib.Core.List.{List, [], _∷_, _++_, append-assoc, append-nil}
 use mathlib.Core.Option.{Option, none, some}
@@ -28,7 +29,8 @@ one-or-none (some bytes) added is same more = more (record { bytes = bytes; adde
 abbrev next : World → Call → World
 next w c = following w (toldOf c) (step c (w .journalist) (w .ring))
 
-by-call : {C : Type 0} (w : World) (c : Call) → (next w c .images ≡ w .images → C) → ((i : Image) → next w c .images ≡ w .images ++ (i ∷ []) → C) → C
+by-call : {C : Type 0} (w : World) (c : Call) → (next w c .images ≡ w .images → C)
+    → ((i : Image) → next w c .images ≡ w .images ++ (i ∷ []) → C) → C
 by-call w c same more = one-or-none (step c (w .journalist) (w .ring) .image) _ (w .images) same more
 
 -- the images of a run begin with those before it
@@ -42,7 +44,8 @@ grown w (c ∷ cs) k =
     (λ i more. k (i ∷ new) (e ∙ ap (λ (is : List Image). is ++ new) more ∙ append-assoc (w .images) (i ∷ []) new))
 
 -- THE CALLS OF THE FIRST IMAGES
-pub stretch : {C : Type 0} (w : World) (cs : List Call) (first rest : List Image) → run w cs .images ≡ w .images ++ (first ++ rest)
+pub stretch : {C : Type 0} (w : World) (cs : List Call) (first rest : List Image)
+    → run w cs .images ≡ w .images ++ (first ++ rest)
     → ((done left : List Call) → done ++ left ≡ cs → run w done .images ≡ w .images ++ first → C) → C
 unfolding run
 stretch w cs [] rest e k = k [] cs refl (sym (append-nil (w .images)))
@@ -52,7 +55,8 @@ stretch w [] (i ∷ first) rest e k =
 stretch w (c ∷ cs) (i ∷ first) rest e k =
     by-call w c
     (λ same.
-    stretch (next w c) cs (i ∷ first) rest (e ∙ ap (λ (is : List Image). is ++ (i ∷ (first ++ rest))) (sym same)) λ done left calls images.
+    stretch (next w c) cs (i ∷ first) rest
+    (e ∙ ap (λ (is : List Image). is ++ (i ∷ (first ++ rest))) (sym same)) λ done left calls images.
     k (c ∷ done) left (ap (λ (l : List Call). c ∷ l) calls) (images ∙ ap (λ (is : List Image). is ++ (i ∷ first)) same))
     (λ x more.
     grown (next w c) cs λ new g.
@@ -61,6 +65,8 @@ stretch w (c ∷ cs) (i ∷ first) rest e k =
     let tails = front-off (w .images) (x ∷ new) (i ∷ (first ++ rest)) all in
     let one : x ≡ i = cc in
     let others : new ≡ first ++ rest = cc in
-    stretch (next w c) cs first rest (g ∙ ap (λ (is : List Image). next w c .images ++ is) others) λ done left calls images.
+    stretch (next w c) cs first rest
+    (g ∙ ap (λ (is : List Image). next w c .images ++ is) others) λ done left calls images.
     k (c ∷ done) left (ap (λ (l : List Call). c ∷ l) calls)
-    (images ∙ ap (λ (is : List Image). is ++ first) more ∙ append-assoc (w .images) (x ∷ []) first ∙ ap (λ (y : Image). w .images ++ (y ∷ first)) one))
+    (images ∙ ap (λ (is : List Image). is ++ first) more ∙ append-assoc (w .images) (x ∷ []) first
+    ∙ ap (λ (y : Image). w .images ++ (y ∷ first)) one))

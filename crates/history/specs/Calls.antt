@@ -1,5 +1,5 @@
--- The calls of demand 3, and what each leaves: made of the definitions that the functions' promises cite, so that the history is one of the code.
--- Assumes nothing.
+-- The calls of demand 3, and what each leaves: made of the definitions that the functions' promises cite, so that
+-- the history is one of the code. Assumes nothing.
 use mathlib.Core.Bool.{Bool, true, false}
 use mathlib.Core.List.{List}
 use mathlib.Core.Option.{Option, none, some}
@@ -8,11 +8,15 @@ use lib.ListN.{take}
 use Rattle.refusals.specs.Outcome.{Outcome, gives, refuses, refusesBlock, into}
 use Rattle.journal_entry.specs.Entry.{JournalEntry}
 use Rattle.journalist.specs.declared.Journalist.{Journalist}
-use Rattle.journalist.specs.Calls.{freezeCall, setWrittenJournalLenCall, updateWrittenJournalLenCall, queryCall, hasFrozenJournal, hasInMemoryJournal, isReplayEmpty, present}
+use Rattle.journalist.specs.Calls.{freezeCall, setWrittenJournalLenCall, updateWrittenJournalLenCall, queryCall}
+use Rattle.journalist.specs.Calls.{hasFrozenJournal, hasInMemoryJournal, isReplayEmpty, present}
 use Rattle.journalist.specs.Append.{appendCall, ringAppended}
-use Rattle.journalist.specs.Package.{packageFrozenJournalCall, frozenPackaged, packageInMemoryJournalCall, memoryPackaged}
-use Rattle.journalist.specs.Recovery.{setFrontCall, setBackCall, parseJournalsCall, replayJournalTopCall, replayJournalPopCall}
-use Rattle.history.specs.Lists.{Told, appending, freezing, packagingFrozen, packagingInMemory, settingWritten, updatingWritten, another}
+use Rattle.journalist.specs.Package.{packageFrozenJournalCall, frozenPackaged, packageInMemoryJournalCall}
+use Rattle.journalist.specs.Package.{memoryPackaged}
+use Rattle.journalist.specs.Recovery.{setFrontCall, setBackCall, parseJournalsCall, replayJournalTopCall}
+use Rattle.journalist.specs.Recovery.{replayJournalPopCall}
+use Rattle.history.specs.Lists.{Told, appending, freezing, packagingFrozen, packagingInMemory, settingWritten}
+use Rattle.history.specs.Lists.{updatingWritten, another}
 
 pub data Query : Type 0 where
   frozenQuery : Query
@@ -51,7 +55,8 @@ toldOf (replayJournalTop replay) = another
 toldOf (replayJournalPop replay) = another
 toldOf (query q) = another
 
--- what a call leaves: whether it was refused, the record for the next call, the ring, and the image that it handed out, if it did
+-- what a call leaves: whether it was refused, the record for the next call, the ring, and the image that it handed
+-- out, if it did
 pub record Left : Type 0 where
   pub refused : Bool
   pub journalist : Journalist

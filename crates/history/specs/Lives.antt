@@ -1,4 +1,5 @@
--- A unit's lives, one after another on the same card: what lies there after any number of them, and the entries that it stands for. Assumes nothing.
+-- A unit's lives, one after another on the same card: what lies there after any number of them, and the entries
+-- that it stands for. Assumes nothing.
 use mathlib.Core.Path.{_≡_}
 use mathlib.Core.List.{List, [], _++_}
 use mathlib.Core.Option.{some}
@@ -40,7 +41,8 @@ pub record Life (payload : List ℕ) (es : List JournalEntry) (payload′ : List
   pub payload-after : left ++ payloads kept ≡ payload′
   pub entries-after : stay ++ entries ≡ es′
 
-pub record OneMore (lived : List ℕ → List JournalEntry → Type 0) (payload : List ℕ) (es : List JournalEntry) : Type 0 where
+pub record OneMore (lived : List ℕ → List JournalEntry → Type 0) (payload : List ℕ)
+    (es : List JournalEntry) : Type 0 where
   pub before : List ℕ
   pub old : List JournalEntry
   pub lived-before : lived before old

@@ -1,4 +1,5 @@
-// Journal entries read from a byte sequence that is two lent slices joined, a ++ b: front and back, the two parts of a ring, one slice and nothing.
+// Journal entries read from a byte sequence that is two lent slices joined, a ++ b: front and back, the two parts
+// of a ring, one slice and nothing.
 ghost use mathlib.Core.Path.{_≡_};
 ghost use mathlib.Core.List.{_++_};
 ghost use Prim.Native.Nat.{_+_, _-_, _≤_, _<_};
@@ -176,7 +177,8 @@ pub fn entry_at(a: &[u8], b: &[u8], at: usize, end: usize) -> EntryRead
     })
 }
 
-// The place behind `count` entries of a ++ b, one behind the other, from `at` to `end` at most. Stops at the first that does not read.
+// The place behind `count` entries of a ++ b, one behind the other, from `at` to `end` at most. Stops at the first
+// that does not read.
 pub fn entries_in(a: &[u8], b: &[u8], at: usize, end: usize, count: usize) -> Walk
     ensures { λ r. ⌜ r ≡ entriesEnd (now (a .entry) ++ now (b .entry)) at end count ⌝ }
 {

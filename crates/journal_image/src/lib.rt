@@ -50,7 +50,8 @@ fn agreeing_blocks(image: &[u8], blocks: usize) -> usize
 fn copy_payloads(image: &[u8], out: &mut [u8], blocks: usize)
     requires { ⌜ 4096 * blocks ≤ length (now image) ⌝ }
     requires { ⌜ 4064 * blocks ≤ length (now out) ⌝ }
-    ensures { λ _. ⌜ now (out .exit) ≡ withoutChecksums blocks (now (image .entry)) ++ drop (4064 * blocks) (now (out .entry)) ⌝ }
+    ensures { λ _. ⌜ now (out .exit)
+        ≡ withoutChecksums blocks (now (image .entry)) ++ drop (4064 * blocks) (now (out .entry)) ⌝ }
 {
     let mut done = 0;
     while done < blocks {

@@ -58,7 +58,12 @@ with-long-bind n (some r) = refl
 pub batch-yes : (s : List ℕ) → Headed s → frontBatch s ≡ with-long (long s) (listed s)
 unfolding frontBatch parseJournalRangeOfBytes parseEntries
 batch-yes s h =
-    rw (header-yes s (h .header), le-leb 1 (wordAt s 4) (h .blocks), le-leb (long s) (length s) (h .room), drop-take 8 (long s) s)
+    rw (
+      header-yes s (h .header),
+      le-leb 1 (wordAt s 4) (h .blocks),
+      le-leb (long s) (length s) (h .room),
+      drop-take 8 (long s) s,
+    )
     (with-long-bind (long s) (listed s))
 
 headed? : (s : List ℕ) → Dec (Headed s)
@@ -103,7 +108,8 @@ batch-told s es next e = go (headed? s)
     impossible : _≡_ {A = Option (List JournalEntry × ℕ)} none (some (es, next)) → BatchTold s es next
     impossible z = let y : _≡_ {A = ℕ} 0 1 = cc in absurd (omega arith)
 
-    read : Headed s → (o : Option (List JournalEntry × List ℕ)) → listed s ≡ o → with-long (long s) o ≡ some (es, next) → BatchTold s es next
+    read : Headed s → (o : Option (List JournalEntry × List ℕ)) → listed s ≡ o
+        → with-long (long s) o ≡ some (es, next) → BatchTold s es next
     read h none q f = impossible f
     read h (some (fs, rest)) q f =
         let g : _≡_ {A = List JournalEntry × ℕ} (fs, long s) (es, next) = cc in
@@ -130,7 +136,8 @@ pub record BatchBounds (s : List ℕ) (es : List JournalEntry) (next : ℕ) : Ty
 length-listed : (s : List ℕ) → Headed s → length (part s 8 (long s)) ≡ long s - 8
 length-listed s h = length-take-le (long s - 8) (drop 8 s) (rw length-drop (omega (arith, h .room)))
 
-pub batch-bounds : (s : List ℕ) (es : List JournalEntry) (next : ℕ) → frontBatch s ≡ some (es, next) → BatchBounds s es next
+pub batch-bounds : (s : List ℕ) (es : List JournalEntry) (next : ℕ) → frontBatch s ≡ some (es, next)
+    → BatchBounds s es next
 batch-bounds s es next e =
     let d = batch-told s es next e in
     let k : AllStand (wordAt s 0) (part s 8 (long s)) (es, d .rest) = readEntries-sound _ _ _ (d .read) in
@@ -164,7 +171,8 @@ walkAnswer count next NoEnd = Unreadable
 
 pub batch-walked : (s : List ℕ) → Headed s
     → batchAnswer (frontBatch s) ≡ walkAnswer (wordAt s 0) (long s) (entriesEnd s 8 (long s) (wordAt s 0))
-batch-walked s h = rw (batch-yes s h, walk-within s 8 (long s) (wordAt s 0) (omega (arith, h .blocks)) (h .room)) (go (listed s) refl)
+batch-walked s h = rw (batch-yes s h, walk-within s 8 (long s) (wordAt s 0) (omega (arith, h .blocks)) (h .room))
+    (go (listed s) refl)
   where
     go : (o : Option (List JournalEntry × List ℕ)) → listed s ≡ o
         → batchAnswer (with-long (long s) o) ≡ walkAnswer (wordAt s 0) (long s) (placeBehind (long s) o)

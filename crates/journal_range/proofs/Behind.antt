@@ -1,4 +1,5 @@
--- The other half of joining: where a range reads and both joined read, the second reads too, as what is behind the first's list. Assumes nothing.
+-- The other half of joining: where a range reads and both joined read, the second reads too, as what is behind the
+-- first's list. Assumes nothing.
 use mathlib.Core.Path.{_≡_, sym, ap, _∙_}
 use mathlib.Core.Bool.{_&&_}
 use mathlib.Core.Option.{some}
@@ -13,7 +14,8 @@ use lib.Seq.{take-append-le}
 use Rattle.words.specs.Lists.{chunks, concatSeq}
 use Rattle.journal_entry.specs.Entry.{JournalEntry}
 use Rattle.journal_entry.proofs.Options.{bind-parts, provided-parts}
-use Rattle.journal_range.specs.Range.{JournalRange, parseHeader, parseJournalRangeOfBytes, parseFrom, parseJournalRange}
+use Rattle.journal_range.specs.Range.{JournalRange, parseHeader, parseJournalRangeOfBytes, parseFrom}
+use Rattle.journal_range.specs.Range.{parseJournalRange}
 use Rattle.journal_range.specs.Payload.{parsePayload}
 use Rattle.journal_range.proofs.Same.{both}
 use Rattle.journal_range.proofs.Payload.{chunks-append}
@@ -22,7 +24,8 @@ behind-from : {C : Type 0} (k : ℕ) (a b : JournalRange) (es fs : List JournalE
     → parseFrom k a ≡ some es → parseFrom k (a ++ b) ≡ some fs
     → ((gs : List JournalEntry) → parseFrom 0 b ≡ some gs → es ++ gs ≡ fs → C) → C
 unfolding parseFrom
-behind-from zero [] b es fs h p q next = let e : [] ≡ es = cc in next fs q (ap (λ (l : List JournalEntry). l ++ fs) (sym e))
+behind-from zero [] b es fs h p q next = let e : [] ≡ es = cc in
+    next fs q (ap (λ (l : List JournalEntry). l ++ fs) (sym e))
 behind-from (suc k) [] b es fs h p q next = absurd (not-suc-le-zero h)
 behind-from (suc k) (x ∷ a) b es fs h p q next = behind-from k a b es fs (le-of-suc-le-suc h) p q next
 behind-from zero (x ∷ a) b es fs h p q next =
@@ -37,7 +40,8 @@ behind-from zero (x ∷ a) b es fs h p q next =
     (rw (e₀, le-leb _ _ h₁, le-leb _ _ h₃, take-append-le (hdr .1) (x ∷ a) b h₂, e₁) at q) λ fs₂ e₄ q₁.
     behind-from (hdr .1 - 1) a b es₂ fs₂ (omega arith) e₂ e₄ λ gs e₅ e₆.
     let e₇ : es₁ ++ fs₂ ≡ fs = cc in
-    next gs e₅ (ap (λ (l : List JournalEntry). l ++ gs) (sym e₃) ∙ append-assoc es₁ es₂ gs ∙ ap (λ (l : List JournalEntry). es₁ ++ l) e₆ ∙ e₇)
+    next gs e₅ (ap (λ (l : List JournalEntry). l ++ gs) (sym e₃) ∙ append-assoc es₁ es₂ gs
+    ∙ ap (λ (l : List JournalEntry). es₁ ++ l) e₆ ∙ e₇)
 
 -- of bytes
 pub reads-behind : {C : Type 0} (p q : List ℕ) (es fs : List JournalEntry) → length p % 4064 ≡ 0 → length q % 4064 ≡ 0
@@ -48,4 +52,5 @@ reads-behind p q es fs hp hq ep eq next =
     let n : ℕ = length p / 4064 in
     let m : ℕ = length q / 4064 in
     let e : length (p ++ q) / 4064 ≡ n + m = rw length-append (omega arith) in
-    behind-from 0 (chunks 4064 n p) (chunks 4064 m q) es fs (omega arith) ep (rw (e, chunks-append 4064 n m p q (omega arith)) at eq) next
+    behind-from 0 (chunks 4064 n p) (chunks 4064 m q) es fs (omega arith) ep
+    (rw (e, chunks-append 4064 n m p q (omega arith)) at eq) next

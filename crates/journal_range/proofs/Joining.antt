@@ -1,5 +1,6 @@
--- JOINING: a range that reads, followed by one that reads, reads as the first list followed by the second; and the source's own recursion, as an
--- equation, for a reader who compares `parseJournalRange` with JournalRange.i.dfy. Assumes nothing.
+-- JOINING: a range that reads, followed by one that reads, reads as the first list followed by the second; and the
+-- source's own recursion, as an equation, for a reader who compares `parseJournalRange` with JournalRange.i.dfy.
+-- Assumes nothing.
 use mathlib.Core.Path.{_≡_, refl, sym, ap, _∙_}
 use mathlib.Core.Bool.{_&&_}
 use mathlib.Core.Option.{some}
@@ -15,7 +16,8 @@ use Rattle.words.specs.Lists.{concatSeq}
 use Rattle.journal_entry.specs.Entry.{JournalEntry}
 use Rattle.journal_entry.specs.Parse.{_>>=_, provided}
 use Rattle.journal_entry.proofs.Options.{bind-parts, provided-parts}
-use Rattle.journal_range.specs.Range.{JournalBlock, JournalRange, parseHeader, parseJournalRangeOfBytes, parseFrom, parseJournalRange}
+use Rattle.journal_range.specs.Range.{JournalBlock, JournalRange, parseHeader, parseJournalRangeOfBytes}
+use Rattle.journal_range.specs.Range.{parseFrom, parseJournalRange}
 use Rattle.journal_range.proofs.Same.{bind-same, provided-same, both}
 
 -- a range's first blocks belong to a batch that is read: what is left is the range behind them
@@ -62,12 +64,15 @@ joining-from zero (x ∷ a) b es fs h p q =
     bind-parts (parseFrom (hdr .1 - 1) a) _ es p₂ λ es₂ e₂ p₃.
     let (h₁, h₂) = both 1 (hdr .1) (hdr .1) (length (x ∷ a)) fits in
     let h₃ : hdr .1 ≤ length (x ∷ (a ++ b)) = rw length-append (omega arith) in
-    let r : parseFrom (hdr .1 - 1) (a ++ b) ≡ some (es₂ ++ fs) = joining-from (hdr .1 - 1) a b es₂ fs (omega arith) e₂ q in
+    let r : parseFrom (hdr .1 - 1) (a ++ b) ≡ some (es₂ ++ fs) =
+    joining-from (hdr .1 - 1) a b es₂ fs (omega arith) e₂ q in
     let e₃ : es₁ ++ es₂ ≡ es = cc in
-    rw (e₀, le-leb _ _ h₁, le-leb _ _ h₃, take-append-le (hdr .1) (x ∷ a) b h₂, e₁, r) (rw (← append-assoc es₁ es₂ fs, e₃))
+    rw (e₀, le-leb _ _ h₁, le-leb _ _ h₃, take-append-le (hdr .1) (x ∷ a) b h₂, e₁, r)
+    (rw (← append-assoc es₁ es₂ fs, e₃))
 
 -- JOINING, of `parseJournalRange` itself; either range may be empty
-pub joining : (a b : JournalRange) (es fs : List JournalEntry) → parseJournalRange a ≡ some es → parseJournalRange b ≡ some fs
+pub joining : (a b : JournalRange) (es fs : List JournalEntry) → parseJournalRange a ≡ some es
+    → parseJournalRange b ≡ some fs
     → parseJournalRange (a ++ b) ≡ some (es ++ fs)
 unfolding parseJournalRange
 joining a b es fs p q = joining-from 0 a b es fs (omega arith) p q

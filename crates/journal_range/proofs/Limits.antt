@@ -12,7 +12,8 @@ use Rattle.journal_entry.specs.Parse.{readEntries, parseEntries}
 use Rattle.journal_entry.proofs.Options.{bind-parts, provided-parts}
 use Rattle.journal_entry.proofs.Reading.{within-append}
 use Rattle.journal_entry.proofs.Sound.{readEntries-sound}
-use Rattle.journal_range.specs.Range.{JournalRange, parseHeader, parseJournalRangeOfBytes, parseFrom, parseJournalRange}
+use Rattle.journal_range.specs.Range.{JournalRange, parseHeader, parseJournalRangeOfBytes, parseFrom}
+use Rattle.journal_range.specs.Range.{parseJournalRange}
 use Rattle.journal_range.specs.Payload.{parsePayload, rangeOf}
 
 entries-limits : (n : ℕ) (s : List ℕ) (es : List JournalEntry) → parseEntries n s ≡ some es → AllWithin es
@@ -42,4 +43,5 @@ range-limits jr es e = limits-from 0 jr es e
 pub range-of-limits : (s : List ℕ) (es : List JournalEntry) → rangeOf s ≡ some es → AllWithin es
 unfolding rangeOf parsePayload
 range-of-limits s es e =
-    provided-parts (eqb (length s % 4064) 0) (parsePayload s) es e λ whole p. range-limits (chunks 4064 (length s / 4064) s) es p
+    provided-parts (eqb (length s % 4064) 0) (parsePayload s) es e λ whole p. range-limits
+    (chunks 4064 (length s / 4064) s) es p

@@ -26,8 +26,9 @@ parseHeader s = do
 unfoldable pub parseJournalRangeOfBytes : (s : List ℕ) (nentries : ℕ) → Option (List JournalEntry)
 parseJournalRangeOfBytes s nentries = parseEntries nentries (drop 8 s)
 
--- `parseFrom k jr` reads jr from its block k on: the first k blocks belong to a batch that is read already. (Recursion on the list itself;
--- `parseJournalRange-cons` in proofs/ is the source's own recursion, on the blocks behind a batch.)
+-- `parseFrom k jr` reads jr from its block k on: the first k blocks belong to a batch that is read already.
+-- (Recursion on the list itself; `parseJournalRange-cons` in proofs/ is the source's own recursion, on the blocks
+-- behind a batch.)
 unfoldable pub parseFrom : (k : ℕ) → JournalRange → Option (List JournalEntry)
 parseFrom k [] = some []
 parseFrom (suc k) (b ∷ bs) = parseFrom k bs

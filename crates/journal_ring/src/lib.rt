@@ -97,7 +97,9 @@ pub fn second_limit(kind: Kind) -> usize
 fn put_form(ring: &mut [u8], at: usize, kind: Kind, first: &[u8], second: &[u8])
     requires { ⌜ (at < length (now ring)) × (8 + length (now first) + length (now second) ≤ length (now ring)) ⌝ }
     requires { ⌜ (length (now first) ≤ 512) × (length (now second) ≤ 1024) ⌝ }
-    ensures { λ _. ⌜ now (ring .exit) ≡ overwritten (now (ring .entry)) at (wire (entryOf (isCloneKind kind) (now (first .entry)) (now (second .entry)))) ⌝ }
+    ensures { λ _. ⌜ now (ring .exit)
+        ≡ overwritten (now (ring .entry)) at
+        (wire (entryOf (isCloneKind kind) (now (first .entry)) (now (second .entry)))) ⌝ }
 {
     let first_at = put_word(ring, at, first.len() as u32 + mark_of(kind));
     let second_word_at = put_bytes(ring, first_at, first);
@@ -105,7 +107,8 @@ fn put_form(ring: &mut [u8], at: usize, kind: Kind, first: &[u8], second: &[u8])
     put_bytes(ring, second_at, second);
 }
 
-// Writes an entry's wire form behind the bytes pending from `start` on, if there is room. Nothing else of the ring is changed.
+// Writes an entry's wire form behind the bytes pending from `start` on, if there is room. Nothing else of the ring
+// is changed.
 pub fn put_entry(
     ring: &mut [u8],
     start: usize,
@@ -114,7 +117,8 @@ pub fn put_entry(
     first: &[u8],
     second: &[u8],
 ) -> Put
-    ensures { λ r. ⌜ (r, now (ring .exit)) ≡ putEntry (now (ring .entry)) start pending kind (now (first .entry)) (now (second .entry)) ⌝ }
+    ensures { λ r. ⌜ (r, now (ring .exit))
+        ≡ putEntry (now (ring .entry)) start pending kind (now (first .entry)) (now (second .entry)) ⌝ }
 {
     let size = ring.len();
     if size <= start {

@@ -22,19 +22,23 @@ use Rattle.listing.specs.Text.{entriesText, refusedText}
 use Rattle.listing.specs.Listing.{written, writtenIn, listedRefusal}
 use Rattle.listing.specs.declared.Listed.{Listed}
 use Rattle.listing.specs.declared.Listed.the-variants.{Short}
-use Rattle.lister.specs.Lister.{andThen, stripped, unlessUnreadable, imageEntries, outcomeText, listing, roomSuffices, listedRange, listedPayload, listedImage}
+use Rattle.lister.specs.Lister.{andThen, stripped, unlessUnreadable, imageEntries, outcomeText, listing}
+use Rattle.lister.specs.Lister.{roomSuffices, listedRange, listedPayload, listedImage}
 
 -- ---- lent buffers that are too short
 
-pub payload-short : (image : List ℕ) (payload replay : ℕ) (text : List ℕ) → payload < 60960 → (Short, text) ≡ listedImage image payload replay text
+pub payload-short : (image : List ℕ) (payload replay : ℕ) (text : List ℕ) → payload < 60960
+    → (Short, text) ≡ listedImage image payload replay text
 unfolding listedImage
 payload-short image payload replay text h = simp (lt-leb 60960 payload h)
 
-pub replay-short : (image : List ℕ) (payload replay : ℕ) (text : List ℕ) → replay < 60960 → (Short, text) ≡ listedImage image payload replay text
+pub replay-short : (image : List ℕ) (payload replay : ℕ) (text : List ℕ) → replay < 60960
+    → (Short, text) ≡ listedImage image payload replay text
 unfolding listedImage
 replay-short image payload replay text h = simp (lt-leb 60960 replay h, and-false)
 
-pub text-short : (image : List ℕ) (payload replay : ℕ) (text : List ℕ) → length text < 121952 → (Short, text) ≡ listedImage image payload replay text
+pub text-short : (image : List ℕ) (payload replay : ℕ) (text : List ℕ) → length text < 121952
+    → (Short, text) ≡ listedImage image payload replay text
 unfolding listedImage
 text-short image payload replay text h = simp (lt-leb 121952 (length text) h, and-false)
 
@@ -47,10 +51,15 @@ pub record Room (payload replay : ℕ) (text : List ℕ) : Type 0 where
 
 module _ (image : List ℕ) (payload replay : ℕ) (text : List ℕ) (room : Room payload replay text) where
   -- what the definition comes to then
-  suffices : (o : Outcome (List JournalEntry)) → imageEntries image ≡ o → written (outcomeText o) text ≡ listedImage image payload replay text
+  suffices : (o : Outcome (List JournalEntry)) → imageEntries image ≡ o
+      → written (outcomeText o) text ≡ listedImage image payload replay text
   unfolding listedImage listing
   suffices o e =
-      simp (le-leb 60960 payload (room .of-payload), le-leb 60960 replay (room .of-replay), le-leb 121952 (length text) (room .of-text))
+      simp (
+        le-leb 60960 payload (room .of-payload),
+        le-leb 60960 replay (room .of-replay),
+        le-leb 121952 (length text) (room .of-text),
+      )
       (ap (λ (p : Outcome (List JournalEntry)). written (outcomeText p) text) (sym e))
 
   refusal : (number : ℕ) → listedRefusal number text ≡ written (refusedText number) text
@@ -58,7 +67,8 @@ module _ (image : List ℕ) (payload replay : ℕ) (text : List ℕ) (room : Roo
   refusal number = let enough : 32 ≤ length text = omega (arith, room .of-text) in simp (le-ltb (length text) 32 enough)
 
   -- a refusal's number, from a strip that refused
-  refused-with : (number : ℕ) (o : Outcome (List JournalEntry)) (x : Listed × List ℕ) → imageEntries image ≡ o → outcomeText o ≡ refusedText number
+  refused-with : (number : ℕ) (o : Outcome (List JournalEntry)) (x : Listed × List ℕ) → imageEntries image ≡ o
+      → outcomeText o ≡ refusedText number
       → x ≡ listedRefusal number text → x ≡ listedImage image payload replay text
   refused-with number o x e is told =
       told ∙ refusal number ∙ ap (λ (t : List ℕ). written t text) (sym is) ∙ suffices o e
@@ -83,15 +93,20 @@ module _ (image : List ℕ) (payload replay : ℕ) (text : List ℕ) (room : Roo
     unfolding imageEntries
     entries o e =
         simp (le-leb (length image) 61440 short)
-        (ap (λ (p : Outcome ℕ). andThen p (λ blocks. unlessUnreadable (rangeOf (withoutChecksums blocks image)))) (sym strips ∙ e))
+        (ap (λ (p : Outcome ℕ). andThen p (λ blocks. unlessUnreadable (rangeOf (withoutChecksums blocks image))))
+        (sym strips ∙ e))
 
-    pub strip-refused : (number n : ℕ) (x : Listed × List ℕ) → stripCall image out ≡ refuses n → number ≡ n → x ≡ listedRefusal number text
+    pub strip-refused : (number n : ℕ) (x : Listed × List ℕ) → stripCall image out ≡ refuses n → number ≡ n
+        → x ≡ listedRefusal number text
         → x ≡ listedImage image payload replay text
-    strip-refused number n x e is told = refused-with number (refuses n) x (entries (refuses n) e) (ap refusedText (sym is)) told
+    strip-refused number n x e is told =
+        refused-with number (refuses n) x (entries (refuses n) e) (ap refusedText (sym is)) told
 
-    pub strip-damaged : (block : ℕ) (x : Listed × List ℕ) → stripCall image out ≡ refusesBlock 12 block → x ≡ listedRefusal 12 text
+    pub strip-damaged : (block : ℕ) (x : Listed × List ℕ) → stripCall image out ≡ refusesBlock 12 block
+        → x ≡ listedRefusal 12 text
         → x ≡ listedImage image payload replay text
-    strip-damaged block x e told = refused-with 12 (refusesBlock 12 block) x (entries (refusesBlock 12 block) e) refl told
+    strip-damaged block x e told = refused-with 12 (refusesBlock 12 block) x
+        (entries (refusesBlock 12 block) e) refl told
 
     -- the text of a payload of at most fifteen blocks
     payload-written : (p : List ℕ) (o : Option (List JournalEntry)) → rangeOf p ≡ o → length p ≤ 60960
@@ -99,7 +114,8 @@ module _ (image : List ℕ) (payload replay : ℕ) (text : List ℕ) (room : Roo
     unfolding rangeOf
     payload-written p none r h = refusal 14
     payload-written p (some es) r h =
-        let few : SumJournalEntries es ≤ length p = provided-parts (eqb (length p % 4064) 0) (parsePayload p) es r λ whole e. payload-weighs p es e in
+        let few : SumJournalEntries es ≤ length p =
+        provided-parts (eqb (length p % 4064) 0) (parsePayload p) es r λ whole e. payload-weighs p es e in
         let fits : SumJournalEntries es ≤ replay = omega (arith, room .of-replay) in
         let enough : 2 * SumJournalEntries es + 32 ≤ length text = omega (arith, room .of-text) in
         simp (le-leb (SumJournalEntries es) replay fits, le-ltb (length text) (2 * SumJournalEntries es + 32) enough)
@@ -109,12 +125,14 @@ module _ (image : List ℕ) (payload replay : ℕ) (text : List ℕ) (room : Roo
         → take (4064 * n - 0) (drop 0 after) ≡ withoutChecksums n image
     written-part n after e is =
         let g = given-told image out n e in
-        let size : length (withoutChecksums n image) ≡ 4064 * n = length-without n image (omega (arith, g .whole, g .count)) in
+        let size : length (withoutChecksums n image) ≡ 4064 * n =
+        length-without n image (omega (arith, g .whole, g .count)) in
         let none-off : 4064 * n - 0 ≡ 4064 * n = omega arith in
         ap₂ (λ (k : ℕ) (s : List ℕ). take k s) none-off (is ∙ output-of image out (gives n) e)
         ∙ take-at (withoutChecksums n image) (drop (4064 * n) out) (4064 * n) size
 
-    pub strip-blocks : (n : ℕ) (after : List ℕ) (x : Listed × List ℕ) → stripCall image out ≡ gives n → after ≡ strippedOutput image out
+    pub strip-blocks : (n : ℕ) (after : List ℕ) (x : Listed × List ℕ) → stripCall image out ≡ gives n
+        → after ≡ strippedOutput image out
         → x ≡ listedPayload (take (4064 * n - 0) (drop 0 after)) replay text → x ≡ listedImage image payload replay text
     unfolding listedPayload
     strip-blocks n after x e is told =

@@ -24,7 +24,8 @@ use Rattle.lister.specs.Lister.{listedRange, listedPayload}
 
 -- the load of a range that does not read, does not fit, or fits, and what is then listed
 module _ (room : ℕ) (text : List ℕ) where
-  of-unreadable : (o : Option (List JournalEntry)) → loadAnswer o room ≡ load.Unreadable → listedRefusal 14 text ≡ listedRange o room text
+  of-unreadable : (o : Option (List JournalEntry)) → loadAnswer o room ≡ load.Unreadable
+      → listedRefusal 14 text ≡ listedRange o room text
   of-unreadable none e = refl
   of-unreadable (some es) e = go (leb (SumJournalEntries es) room) refl
     where
@@ -50,7 +51,8 @@ pub record Loaded (p replay : List ℕ) (entries bytes : ℕ) (after : List ℕ)
   pub buffer : after ≡ wires list ++ drop (length (wires list)) replay
 
 of-loaded : (p replay : List ℕ) (entries bytes : ℕ) (after : List ℕ) (o : Option (List JournalEntry)) → rangeOf p ≡ o
-    → loadAnswer o (length replay) ≡ load.Loaded entries bytes → after ≡ loadedBuffer o replay → Loaded p replay entries bytes after
+    → loadAnswer o (length replay) ≡ load.Loaded entries bytes → after ≡ loadedBuffer o replay
+    → Loaded p replay entries bytes after
 of-loaded p replay entries bytes after none r e b = impossible cc
 of-loaded p replay entries bytes after (some es) r e b = go (leb (SumJournalEntries es) (length replay)) refl
   where
@@ -64,19 +66,23 @@ of-loaded p replay entries bytes after (some es) r e b = go (leb (SumJournalEntr
 alone : (p : List ℕ) → rangeOf (p ++ []) ≡ rangeOf p
 alone p = ap rangeOf (append-nil p)
 
-pub unreadable-listed : (p text : List ℕ) (room number : ℕ) (x : Listed × List ℕ) → loadAnswer (rangeOf (p ++ [])) room ≡ load.Unreadable
+pub unreadable-listed : (p text : List ℕ) (room number : ℕ) (x : Listed × List ℕ)
+    → loadAnswer (rangeOf (p ++ [])) room ≡ load.Unreadable
     → number ≡ 14 → x ≡ listedRefusal number text → x ≡ listedPayload p room text
 unfolding listedPayload
 unreadable-listed p text room number x e n told =
     told ∙ ap (λ (k : ℕ). listedRefusal k text) n
-    ∙ of-unreadable room text (rangeOf p) (ap (λ (o : Option (List JournalEntry)). loadAnswer o room) (sym (alone p)) ∙ e)
+    ∙ of-unreadable room text (rangeOf p)
+    (ap (λ (o : Option (List JournalEntry)). loadAnswer o room) (sym (alone p)) ∙ e)
 
-pub short-listed : (p text : List ℕ) (room : ℕ) → loadAnswer (rangeOf (p ++ [])) room ≡ load.Short → (Short, text) ≡ listedPayload p room text
+pub short-listed : (p text : List ℕ) (room : ℕ) → loadAnswer (rangeOf (p ++ [])) room ≡ load.Short
+    → (Short, text) ≡ listedPayload p room text
 unfolding listedPayload
 short-listed p text room e =
     of-short room text (rangeOf p) (ap (λ (o : Option (List JournalEntry)). loadAnswer o room) (sym (alone p)) ∙ e)
 
-pub loaded : (p replay : List ℕ) (entries bytes : ℕ) (after : List ℕ) → loadAnswer (rangeOf (p ++ [])) (length replay) ≡ load.Loaded entries bytes
+pub loaded : (p replay : List ℕ) (entries bytes : ℕ) (after : List ℕ)
+    → loadAnswer (rangeOf (p ++ [])) (length replay) ≡ load.Loaded entries bytes
     → after ≡ loadedBuffer (rangeOf (p ++ [])) replay → Loaded p replay entries bytes after
 loaded p replay entries bytes after e b =
     of-loaded p replay entries bytes after (rangeOf p) refl
@@ -84,17 +90,21 @@ loaded p replay entries bytes after e b =
     (b ∙ ap (λ (o : Option (List JournalEntry)). loadedBuffer o replay) (alone p))
 
 -- what was loaded lies in the replay buffer
-pub loaded-within : (p replay : List ℕ) (entries bytes : ℕ) (after : List ℕ) → Loaded p replay entries bytes after → length after ≡ length replay → bytes ≤ length after
-loaded-within p replay entries bytes after l e = omega (arith, l .long, leb-true (SumJournalEntries (l .list)) (length replay) (l .fits))
+pub loaded-within : (p replay : List ℕ) (entries bytes : ℕ) (after : List ℕ) → Loaded p replay entries bytes after
+    → length after ≡ length replay → bytes ≤ length after
+loaded-within p replay entries bytes after l e =
+    omega (arith, l .long, leb-true (SumJournalEntries (l .list)) (length replay) (l .fits))
 
-pub loaded-listed : (p replay text : List ℕ) (entries bytes : ℕ) (after : List ℕ) (x : Listed × List ℕ) → Loaded p replay entries bytes after
+pub loaded-listed : (p replay text : List ℕ) (entries bytes : ℕ) (after : List ℕ) (x : Listed × List ℕ)
+    → Loaded p replay entries bytes after
     → x ≡ listedEntries (take (bytes - 0) (drop 0 after)) entries text → x ≡ listedPayload p (length replay) text
 unfolding listedPayload listedEntries
 loaded-listed p replay text entries bytes after x l told =
     let es = l .list in
     let size : bytes - 0 ≡ length (wires es) = omega (arith, l .long, length-wires es) in
     let run : take (bytes - 0) (drop 0 after) ≡ wires es =
-    ap₂ (λ (n : ℕ) (s : List ℕ). take n s) size (l .buffer) ∙ take-at (wires es) (drop (length (wires es)) replay) (length (wires es)) refl in
+    ap₂ (λ (n : ℕ) (s : List ℕ). take n s) size (l .buffer)
+    ∙ take-at (wires es) (drop (length (wires es)) replay) (length (wires es)) refl in
     let read : readExactly entries (take (bytes - 0) (drop 0 after)) ≡ some es =
     ap₂ readExactly (l .many) run ∙ readExactly-wires es (range-of-limits p es (l .reads)) in
     let long : length (take (bytes - 0) (drop 0 after)) ≡ SumJournalEntries es = ap length run ∙ length-wires es in

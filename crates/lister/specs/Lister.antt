@@ -51,7 +51,9 @@ listing image = outcomeText (imageEntries image)
 -- the text of a range's entries, by way of a replay buffer of `room` bytes
 abbrev pub listedRange : Option (List JournalEntry) → (room : ℕ) (text : List ℕ) → Listed × List ℕ
 listedRange none room text = listedRefusal 14 text
-listedRange (some es) room text = cond (leb (SumJournalEntries es) room) (writtenIn (2 * SumJournalEntries es + 32) (entriesText es) text) (Short, text)
+listedRange (some es) room text =
+    cond (leb (SumJournalEntries es) room) (writtenIn (2 * SumJournalEntries es + 32) (entriesText es) text)
+    (Short, text)
 
 unfoldable pub listedPayload : (payload : List ℕ) (room : ℕ) (text : List ℕ) → Listed × List ℕ
 listedPayload payload room text = listedRange (rangeOf payload) room text

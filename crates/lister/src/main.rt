@@ -1,4 +1,5 @@
-// Reads an image on standard input and prints its entries, or why it cannot: document 01, the end of "Cases". Where the input cannot be read it prints `unread`.
+// Reads an image on standard input and prints its entries, or why it cannot: document 01, the end of "Cases". Where
+// the input cannot be read it prints `unread`.
 ghost use mathlib.Core.Path.{_≡_};
 ghost use lib.ListN.{length};
 ghost use Rattle.lister.specs.Lister.{listedPayload, listedImage};
@@ -12,7 +13,8 @@ use refusals::Refusal;
 
 // The text of a payload's entries. The replay buffer takes their wire forms.
 fn list_payload(payload: &[u8], replay: &mut [u8], text: &mut [u8]) -> Listed
-    ensures { λ r. ⌜ (r, now (text .exit)) ≡ listedPayload (now (payload .entry)) (length (now (replay .entry))) (now (text .entry)) ⌝ }
+    ensures { λ r. ⌜ (r, now (text .exit))
+        ≡ listedPayload (now (payload .entry)) (length (now (replay .entry))) (now (text .entry)) ⌝ }
 {
     let load = journal_range::load(payload, &payload[0..0], replay);
     match load {
@@ -28,7 +30,9 @@ fn list_payload(payload: &[u8], replay: &mut [u8], text: &mut [u8]) -> Listed
 
 // The text of an image. The payload buffer takes its payload.
 fn list_image(image: &[u8], payload: &mut [u8], replay: &mut [u8], text: &mut [u8]) -> Listed
-    ensures { λ r. ⌜ (r, now (text .exit)) ≡ listedImage (now (image .entry)) (length (now (payload .entry))) (length (now (replay .entry))) (now (text .entry)) ⌝ }
+    ensures { λ r. ⌜ (r, now (text .exit))
+        ≡ listedImage (now (image .entry)) (length (now (payload .entry))) (length (now (replay .entry)))
+        (now (text .entry)) ⌝ }
 {
     if payload.len() < 60960 {
         return Listed::Short;

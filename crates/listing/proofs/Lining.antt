@@ -34,7 +34,8 @@ pub pieces-in : (s : List ℕ) (at end : ℕ) (p : EntryPlace) → entryAt s at 
 unfolding placeAt
 pieces-in s at end p e =
     let (h, is) = read-told s at end p e in
-    subst (PiecesIn s) (sym is) (record { first-in = omega (arith, h .inside, h .before); second-in = omega (arith, h .inside, h .before) })
+    subst (PiecesIn s) (sym is) (record
+    { first-in = omega (arith, h .inside, h .before); second-in = omega (arith, h .inside, h .before) })
 
 pub part-all : (s : List ℕ) → part s 0 (length s) ≡ s
 part-all s = take-all (length s - 0) s (omega arith)
@@ -47,7 +48,8 @@ reads-with : (e : JournalEntry) (o : Option (List JournalEntry × List ℕ)) →
 reads-with e none r = r
 reads-with e (some x) r = tt
 
-lines-with : (e : JournalEntry) (o : Option (List JournalEntry × List ℕ)) → Reads (with e o) → linesOf (with e o) ≡ entryLine e ++ linesOf o
+lines-with : (e : JournalEntry) (o : Option (List JournalEntry × List ℕ)) → Reads (with e o)
+    → linesOf (with e o) ≡ entryLine e ++ linesOf o
 unfolding entryLines
 lines-with e none r = absurd r
 lines-with e (some x) r = refl
@@ -64,11 +66,13 @@ lining-starts s count d₀ at r fits = record {
   from = omega arith;
   reads = subst (λ (t : List ℕ). Reads (readEntries count t)) (sym (part-all s)) r;
   putting =
-      subst (λ (t : List ℕ). Putting d₀ at (linesOf (readEntries count s)) d₀ at (linesOf (readEntries count t))) (sym (part-all s))
+      subst (λ (t : List ℕ). Putting d₀ at (linesOf (readEntries count s)) d₀ at (linesOf (readEntries count t)))
+      (sym (part-all s))
       (putting-none d₀ at (linesOf (readEntries count s)) fits);
 }
 
-module _ {s : List ℕ} {count : ℕ} {d₀ : List ℕ} {at : ℕ} {d : List ℕ} {here left to : ℕ} (w : Lining s count d₀ at d here left to) where
+module _ {s : List ℕ} {count : ℕ} {d₀ : List ℕ} {at : ℕ} {d : List ℕ} {here left to : ℕ}
+    (w : Lining s count d₀ at d here left to) where
   pub lining-ends : left ≡ 0 → Put d₀ at (linesOf (readEntries count s)) d to
   unfolding readEntries entryLines
   lining-ends e =
@@ -103,7 +107,8 @@ module _ {s : List ℕ} {count : ℕ} {d₀ : List ℕ} {at : ℕ} {d : List ℕ
       pub line-fits : to + length (entryLine (entryAtPlace s p)) ≤ length d
       line-fits = part-fits (w .putting) (entryLine (entryAtPlace s p)) (linesOf rest) lines-now
 
-      pub lining-more : {d₁ : List ℕ} {q : ℕ} → Put d to (entryLine (entryAtPlace s p)) d₁ q → Lining s count d₀ at d₁ (p .next) (left - 1) q
+      pub lining-more : {d₁ : List ℕ} {q : ℕ} → Put d to (entryLine (entryAtPlace s p)) d₁ q
+          → Lining s count d₀ at d₁ (p .next) (left - 1) q
       unfolding rest
       lining-more a = record {
         from = bridge-read s here (length s) p e .next-before;

@@ -1,4 +1,5 @@
-// The calls on places in the region, run on cases 9 and 10, on the examples of document 01 and on the ends of every range. What they must come to is in the file stdout.
+// The calls on places in the region, run on cases 9 and 10, on the examples of document 01 and on the ends of every
+// range. What they must come to is in the file stdout.
 use disk_layout::IntervalAnswer;
 use disk_layout::JournalInterval;
 use disk_layout::Location;

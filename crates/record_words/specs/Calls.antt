@@ -1,4 +1,5 @@
--- A call on a record that lies in lent words: what it comes to, its number, and what it leaves in the words and in a lent buffer. Assumes nothing.
+-- A call on a record that lies in lent words: what it comes to, its number, and what it leaves in the words and in
+-- a lent buffer. Assumes nothing.
 use mathlib.Core.List.{List, _++_}
 use Prim.Native.Nat.{ℕ, _+_, _*_}
 use lib.Dec.{leb}
@@ -7,7 +8,7 @@ use Rattle.refusals.specs.Outcome.{Outcome, gives, refuses, refusesBlock, requi
 use Rattle.journalist.specs.declared.Journalist.{Journalist}
 use Rattle.record_words.specs.declared.Decoded.{Decoded}
 use Rattle.record_words.specs.declared.Decoded.the-variants.{Damaged, Of}
-use Rattle.record_words.specs.Words.{wordsOf, decodeOf}
+use Rattle.record_words.specs.Words.{wordCount, wordsOf, decodeOf}
 
 -- what a C or Rust caller gets of a call: 0, or the number of document 01's table; 12 comes with 256 times the block
 abbrev pub codeOf : {A : Type 0} → Outcome A → ℕ
@@ -25,14 +26,14 @@ onRecord words call = onDecoded (decodeOf words) call
 
 -- the words after a call: the new record's, the words behind unchanged; a refusal changes nothing
 abbrev pub wordsAfter : (words : List ℕ) → Outcome Journalist → List ℕ
-wordsAfter words (gives j) = wordsOf j ++ drop 17 words
+wordsAfter words (gives j) = wordsOf j ++ drop wordCount words
 wordsAfter words (refuses number) = words
 wordsAfter words (refusesBlock number block) = words
 
--- a record to words that need not hold one: 9 where they are fewer than 17
+-- a record to words that need not hold one: 9 where they are too few
 abbrev pub fittedTo : (words : List ℕ) → Outcome Journalist → Outcome Journalist
 fittedTo words (gives j) =
-    require leb 17 (length words) else 9 then
+    require leb wordCount (length words) else 9 then
     gives j
 fittedTo words (refuses number) = refuses number
 fittedTo words (refusesBlock number block) = refusesBlock number block

@@ -1,4 +1,4 @@
--- The record as words, version 1 of the layout: 17 words of 64 bits. Assumes nothing.
+-- The record as words of 64 bits. Assumes nothing.
 use mathlib.Core.Bool.{Bool, true, false, cond, _&&_}
 use mathlib.Core.List.{List, [], _∷_}
 use Prim.Native.Nat.{ℕ}
@@ -12,6 +12,13 @@ use Rattle.journalist.specs.declared.Side.the-variants.{Absent, Blocks}
 use Rattle.record_words.specs.declared.Decoded.{Decoded}
 use Rattle.record_words.specs.declared.Decoded.the-variants.{Damaged, Of}
 
+-- the version of the layout, and how many words it has
+abbrev pub layout : ℕ
+layout = 1
+
+abbrev pub wordCount : ℕ
+wordCount = 17
+
 -- a yes or a no as a word
 abbrev pub flagOf : Bool → ℕ
 flagOf true = 1
@@ -20,7 +27,7 @@ flagOf false = 0
 -- the version, then the record's counts; front and back are two words each, whether there is one and its blocks
 abbrev pub wordsOf : Journalist → List ℕ
 wordsOf j =
-    1
+    layout
     ∷ j .blocks
     ∷ j .ring
     ∷ j .start
@@ -50,10 +57,11 @@ sideOf flag blocks = cond (eqb flag 0) Absent (Blocks blocks)
 abbrev at : List ℕ → ℕ → ℕ
 at words i = getD words i 0
 
--- words say a record: 17 of them, of version 1, with two sides. Words behind them are not looked at
+-- words say a record: enough of them, of this version, with two sides. Words behind them are not looked at
 unfoldable pub wordsRead : List ℕ → Bool
 wordsRead words =
-    leb 17 (length words) && eqb (at words 0) 1 && sideReads (at words 13) (at words 14) && sideReads (at words 15) (at words 16)
+    leb wordCount (length words) && eqb (at words 0) layout && sideReads (at words 13) (at words 14)
+    && sideReads (at words 15) (at words 16)
 
 -- the record that they say
 unfoldable pub recordAt : List ℕ → Journalist

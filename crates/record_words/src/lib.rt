@@ -1,5 +1,5 @@
-// The journal's record as words in a lent slice, for callers that have only numbers. Version 1 of the layout, 17 words:
-//  0 version (1)            6 in-memory entries     12 replay entries
+// The journal's record as words in a lent slice, for callers that have only numbers. The words:
+//  0 the layout             6 in-memory entries     12 replay entries
 //  1 N, blocks              7 in-memory bytes       13 front: 1, or 0 where there is none
 //  2 R, ring bytes          8 written blocks        14 its blocks, 0 where there is none
 //  3 start                  9 frozen blocks         15 back: the same
@@ -13,7 +13,7 @@ ghost use lib.ListN.{length, drop};
 ghost use Rattle.journalist.specs.Answers.{recordOutcome};
 ghost use Rattle.journalist.specs.Calls.{present};
 ghost use Rattle.journalist.specs.Recovery.{sideBlocks};
-ghost use Rattle.record_words.specs.Words.{flagOf, wordsOf, sideReads, sideOf, decodeOf};
+ghost use Rattle.record_words.specs.Words.{wordCount, flagOf, wordsOf, sideReads, sideOf, decodeOf};
 ghost use Rattle.record_words.specs.Calls.{codeOf, fittedTo, wordsAfter};
 use journalist::Journalist;
 use journalist::Pending;
@@ -21,6 +21,11 @@ use journalist::Recorded;
 use journalist::Side;
 use refusals::Refusal;
 use replay_cursor::Replay;
+
+// The version of the layout, and how many words it has.
+pub const LAYOUT: u64 = 1;
+
+pub const WORDS: usize = 17;
 
 // What words say: no record, or a record whose counts may still not hang together.
 pub enum Decoded {
@@ -69,10 +74,10 @@ fn blocks_of(side: Side) -> u64
 pub fn decode(words: &[u64]) -> Decoded
     ensures { λ r. ⌜ r ≡ decodeOf (now (words .entry)) ⌝ }
 {
-    if words.len() < 17 {
+    if words.len() < WORDS {
         return Decoded::Damaged;
     }
-    if words[0] != 1 {
+    if words[0] != LAYOUT {
         return Decoded::Damaged;
     }
     if !side_reads(words[13], words[14]) {
@@ -106,12 +111,12 @@ pub fn decode(words: &[u64]) -> Decoded
 }
 
 fn store(words: &mut [u64], j: Journalist)
-    requires { ⌜ 17 ≤ length (now words) ⌝ }
-    ensures { λ _. ⌜ now (words .exit) ≡ wordsOf j ++ drop 17 (now (words .entry)) ⌝ }
+    requires { ⌜ wordCount ≤ length (now words) ⌝ }
+    ensures { λ _. ⌜ now (words .exit) ≡ wordsOf j ++ drop wordCount (now (words .entry)) ⌝ }
 {
     let front = j.front;
     let back = j.back;
-    words[0] = 1;
+    words[0] = LAYOUT;
     words[1] = j.blocks as u64;
     words[2] = j.ring as u64;
     words[3] = j.start as u64;
@@ -130,15 +135,17 @@ fn store(words: &mut [u64], j: Journalist)
     words[16] = blocks_of(back);
 }
 
-// A call's record to the words, and its number: 0, its refusal's, or 9 where there are fewer than 17. (Words that were decoded are never fewer.)
+// A call's record to the words, and its number: 0, its refusal's, or 9 where there are too few. (Words that were
+// decoded are never fewer.)
 pub fn put(words: &mut [u64], answer: Recorded) -> u64
     ensures { λ r. ⌜ r ≡ codeOf (fittedTo (now (words .entry)) (recordOutcome answer)) ⌝ }
-    ensures { λ _. ⌜ now (words .exit) ≡ wordsAfter (now (words .entry)) (fittedTo (now (words .entry)) (recordOutcome answer)) ⌝ }
+    ensures { λ _. ⌜ now (words .exit)
+        ≡ wordsAfter (now (words .entry)) (fittedTo (now (words .entry)) (recordOutcome answer)) ⌝ }
 {
     match answer {
         Recorded::Refused(why) => refusals::number(why),
         Recorded::Done(j) => {
-            if words.len() < 17 {
+            if words.len() < WORDS {
                 return refusals::number(Refusal::OutputTooShort);
             }
             store(words, j);

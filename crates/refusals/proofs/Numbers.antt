@@ -4,14 +4,20 @@ use mathlib.Core.List.{List, [], _∷_}
 use Prim.Native.Nat.{ℕ}
 use lib.ListN.{getD}
 use Rattle.refusals.specs.declared.Refusal.{Refusal}
-use Rattle.refusals.specs.declared.Refusal.the-variants.{SizeOutOfRange, CountsDisagree, FirstTooLong, SecondTooLong, RegionFull, RingFull, EntriesPending, NothingThere, OutputTooShort, LengthTooLarge, ImageNotWhole, PayloadNotWhole, Unreadable, RingUnreadable, PlaceNotValid}
+use Rattle.refusals.specs.declared.Refusal.the-variants.{SizeOutOfRange, CountsDisagree, FirstTooLong}
+use Rattle.refusals.specs.declared.Refusal.the-variants.{SecondTooLong, RegionFull, RingFull, EntriesPending}
+use Rattle.refusals.specs.declared.Refusal.the-variants.{NothingThere, OutputTooShort, LengthTooLarge}
+use Rattle.refusals.specs.declared.Refusal.the-variants.{ImageNotWhole, PayloadNotWhole, Unreadable}
+use Rattle.refusals.specs.declared.Refusal.the-variants.{RingUnreadable, PlaceNotValid}
 use Rattle.refusals.specs.Refusals.{numberOf}
 
 -- the refusals at their numbers; places 0 and 12 are never looked at
 abbrev rows : List Refusal
 rows =
-    SizeOutOfRange ∷ SizeOutOfRange ∷ CountsDisagree ∷ FirstTooLong ∷ SecondTooLong ∷ RegionFull ∷ RingFull ∷ EntriesPending ∷ NothingThere
-    ∷ OutputTooShort ∷ LengthTooLarge ∷ ImageNotWhole ∷ ImageNotWhole ∷ PayloadNotWhole ∷ Unreadable ∷ RingUnreadable ∷ PlaceNotValid ∷ []
+    SizeOutOfRange ∷ SizeOutOfRange ∷ CountsDisagree ∷ FirstTooLong ∷ SecondTooLong ∷ RegionFull ∷ RingFull
+    ∷ EntriesPending ∷ NothingThere
+    ∷ OutputTooShort ∷ LengthTooLarge ∷ ImageNotWhole ∷ ImageNotWhole ∷ PayloadNotWhole ∷ Unreadable
+    ∷ RingUnreadable ∷ PlaceNotValid ∷ []
 
 abbrev row : ℕ → Refusal
 row n = getD rows n SizeOutOfRange

@@ -1,7 +1,11 @@
 -- The number of each refusal: document 01, the table "When a call says no". Assumes nothing.
 use Prim.Native.Nat.{ℕ}
 use Rattle.refusals.specs.declared.Refusal.{Refusal}
-use Rattle.refusals.specs.declared.Refusal.the-variants.{SizeOutOfRange, CountsDisagree, FirstTooLong, SecondTooLong, RegionFull, RingFull, EntriesPending, NothingThere, OutputTooShort, LengthTooLarge, ImageNotWhole, PayloadNotWhole, Unreadable, RingUnreadable, PlaceNotValid}
+use Rattle.refusals.specs.declared.Refusal.the-variants.{SizeOutOfRange, CountsDisagree, FirstTooLong}
+use Rattle.refusals.specs.declared.Refusal.the-variants.{SecondTooLong, RegionFull, RingFull, EntriesPending}
+use Rattle.refusals.specs.declared.Refusal.the-variants.{NothingThere, OutputTooShort, LengthTooLarge}
+use Rattle.refusals.specs.declared.Refusal.the-variants.{ImageNotWhole, PayloadNotWhole, Unreadable}
+use Rattle.refusals.specs.declared.Refusal.the-variants.{RingUnreadable, PlaceNotValid}
 
 abbrev pub numberOf : Refusal → ℕ
 numberOf SizeOutOfRange = 1

@@ -18,7 +18,8 @@ pub struct Replay {
     pub entries: usize,
 }
 
-// The entry at the replay's place: its kind, its two lengths, and their bytes' places from the replay buffer's start on.
+// The entry at the replay's place: its kind, its two lengths, and their bytes' places from the replay buffer's
+// start on.
 pub struct Top {
     pub kind: Kind,
     pub first_at: usize,

@@ -29,7 +29,8 @@ module _ (d : List ℕ) (at : ℕ) (x : List ℕ) (fits : at + length x ≤ leng
   length-splice = ap length split ∙ simp (length-append, length-take, length-drop) (omega arith)
 
   take-splice : take (at + length x) (splice d at x) ≡ take at d ++ x
-  take-splice = ap (take (at + length x)) split ∙ take-at (take at d ++ x) (drop (at + length x) d) (at + length x) head-long
+  take-splice = ap (take (at + length x)) split
+      ∙ take-at (take at d ++ x) (drop (at + length x) d) (at + length x) head-long
 
   drop-splice : (n : ℕ) → drop (at + length x + n) (splice d at x) ≡ drop (at + length x + n) d
   drop-splice n =
@@ -63,7 +64,8 @@ module _ (a b : List ℕ) (at n : ℕ) where
       let e : length a + (at - length a) ≡ at = omega arith in
       ap (take n) (rw e at (drop-append-add a b (at - length a)))
 
-  run-across : at ≤ length a → length a ≤ at + n → run (a ++ b) at n ≡ run a at (length a - at) ++ run b 0 (n - (length a - at))
+  run-across : at ≤ length a → length a ≤ at + n
+      → run (a ++ b) at n ≡ run a at (length a - at) ++ run b 0 (n - (length a - at))
   run-across h k =
       let e : n ≡ length (drop at a) + (n - (length a - at)) = simp length-drop (omega arith) in
       ap (take n) (drop-append-le at a b h)

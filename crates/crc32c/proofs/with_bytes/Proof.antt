@@ -1,5 +1,5 @@
--- `crc32c::with_bytes` meets its contract. The invariant: the register with the bytes that are left is the register with all.
--- Assumes nothing.
+-- `crc32c::with_bytes` meets its contract. The invariant: the register with the bytes that are left is the register
+-- with all. Assumes nothing.
 use mathlib.Core.Path.{_≡_, _∙_, sym}
 use mathlib.Core.List.{foldl}
 use Prim.Native.Nat.{_≤_, _-_}
@@ -34,7 +34,8 @@ loop-less c = search needs
 loop-again : tie.Need-loop-again Inv-loop μ-loop
 loop-again c = (
   search needs,
-  from-next _ _ _ _ (c .before .before .loop-test .taken) (c .step-byte .ensures) ∙ c .before .before .before .loop .inv .1,
+  from-next _ _ _ _ (c .before .before .loop-test .taken) (c .step-byte .ensures)
+      ∙ c .before .before .before .loop .inv .1,
 )
 
 returns : tie.Need-returns Inv-loop μ-loop

@@ -1,5 +1,5 @@
--- `crc32c::with_due` meets its contract. The invariant: the register, what is due and the bytes that are left come to what they came to at first.
--- Assumes nothing.
+-- `crc32c::with_due` meets its contract. The invariant: the register, what is due and the bytes that are left come
+-- to what they came to at first. Assumes nothing.
 use mathlib.Core.Path.{_≡_, refl, ap, _∙_}
 use mathlib.Core.List.{[], _∷_, foldl}
 use Prim.Native.Nat.{ℕ, _≤_, _-_}
@@ -65,8 +65,11 @@ loop-again c =
     let at = c .before .before .before .before .before .before .before .loop in
     let start = c .before .before .before .before .before .before .before .before .before in (
       search needs,
-      due-turn (start .args .s .now) (λ k. c .before .before .before .before .before .before .before .before .shared-slice-known .given k .fits) (at .r) (at .first) (at .second) (at .third) (at .i) _ _
-          (c .before .before .before .before .before .before .loop-test .taken) (c .before .word-of .ensures) (c .step-word .ensures)
+      due-turn (start .args .s .now) (λ k.
+          c .before .before .before .before .before .before .before .before .shared-slice-known .given k .fits)
+          (at .r) (at .first) (at .second) (at .third) (at .i) _ _
+          (c .before .before .before .before .before .before .loop-test .taken) (c .before .word-of .ensures)
+          (c .step-word .ensures)
           ∙ at .inv .1,
     )
 
@@ -88,7 +91,8 @@ returns c =
     let s = c .before .before .before .before .before .args .s .now in
     ap (λ (x : ℕ). bitXor (bitXor (bitXor x (at .first)) (at .second)) (at .third))
     (c .with-bytes .ensures ∙ ap (foldl stepByte (at .r)) (tail (at .i) s))
-    ∙ due-end (at .r) (at .first) (at .second) (at .third) (drop (at .i) s) (omega (arith, length-drop (at .i) s, c .before .before .loop-test .left))
+    ∙ due-end (at .r) (at .first) (at .second) (at .third) (drop (at .i) s)
+    (omega (arith, length-drop (at .i) s, c .before .before .loop-test .left))
     ∙ at .inv .1
 
 pub with-due-spec : {M : Type 1} → statement M

@@ -1,5 +1,5 @@
--- `crc32c::with_words` meets its contract. The invariant: the four registers, with the bytes that are left, are the register with all.
--- Assumes nothing.
+-- `crc32c::with_words` meets its contract. The invariant: the four registers, with the bytes that are left, are the
+-- register with all. Assumes nothing.
 use mathlib.Core.Path.{_≡_, ap, _∙_}
 use mathlib.Core.List.{[], _∷_, foldl}
 use Prim.Native.Nat.{_-_, _≤_}
@@ -13,7 +13,8 @@ use Rattle.crc32c.proofs.with_words.Statement.{statement}
 use Rattle.crc32c.proofs.with_words.Tie as tie
 
 abbrev Inv-loop : tie.InvT-loop
-Inv-loop register s a₀ b₀ c₀ d₀ i₀ a b c d i = (i ≤ length s) × (lanes a (b ∷ c ∷ d ∷ []) (drop i s) ≡ foldl stepByte register s)
+Inv-loop register s a₀ b₀ c₀ d₀ i₀ a b c d i =
+    (i ≤ length s) × (lanes a (b ∷ c ∷ d ∷ []) (drop i s) ≡ foldl stepByte register s)
 
 abbrev μ-loop : tie.MeasureT-loop
 μ-loop register s a₀ b₀ c₀ d₀ i₀ a b c d i = length s - i
@@ -62,8 +63,11 @@ loop-again c =
     let at = c .before .before .before .before .before .before .before .loop in
     let start = c .before .before .before .before .before .before .before .before .before in (
       search needs,
-      turn-at (start .args .s .now) (λ k. c .before .before .before .before .before .before .before .before .shared-slice-known .given k .fits) (at .a) (at .b) (at .c) (at .d) (at .i) _ _
-          (c .before .before .before .before .before .before .loop-test .taken) (c .before .word-of .ensures) (c .step-128 .ensures)
+      turn-at (start .args .s .now) (λ k.
+          c .before .before .before .before .before .before .before .before .shared-slice-known .given k .fits)
+          (at .a) (at .b) (at .c) (at .d) (at .i) _ _
+          (c .before .before .before .before .before .before .loop-test .taken) (c .before .word-of .ensures)
+          (c .step-128 .ensures)
           ∙ at .inv .1,
     )
 
@@ -83,7 +87,8 @@ returns : tie.Need-returns Inv-loop μ-loop
 returns c =
     let at = c .before .before .before .loop in
     c .with-due .ensures
-    ∙ ap (lanes (at .a) (at .b ∷ at .c ∷ at .d ∷ [])) (tail (at .i) (c .before .before .before .before .before .args .s .now))
+    ∙ ap (lanes (at .a) (at .b ∷ at .c ∷ at .d ∷ []))
+    (tail (at .i) (c .before .before .before .before .before .args .s .now))
     ∙ at .inv .1
 
 pub with-words-spec : {M : Type 1} → statement M

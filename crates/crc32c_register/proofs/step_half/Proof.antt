@@ -1,5 +1,5 @@
--- `crc32c_register::step_half` meets its contract: the tables' rule for a digit of four bits, with no step left for the others.
--- Assumes nothing.
+-- `crc32c_register::step_half` meets its contract: the tables' rule for a digit of four bits, with no step left for
+-- the others. Assumes nothing.
 use mathlib.Core.Path.{refl}
 use borrow.Author.Needs.{needs}
 use Rattle.crc32c_register.specs.Register.{stepBits}

@@ -1,5 +1,5 @@
--- `crc32c_register::step_word` meets its contract: the tables' rule, once for each half byte; the highest one is all that is left.
--- Assumes nothing.
+-- `crc32c_register::step_word` meets its contract: the tables' rule, once for each half byte; the highest one is
+-- all that is left. Assumes nothing.
 use mathlib.Core.Path.{ap, _∙_}
 use native.Mathlib.Omega.{arith}
 use borrow.Author.Needs.{needs}

@@ -1,5 +1,5 @@
--- `crc32c_tables::step_128` meets its contract: the tables' rule, once for each byte; the highest byte is all that is left.
--- Assumes nothing.
+-- `crc32c_tables::step_128` meets its contract: the tables' rule, once for each byte; the highest byte is all that
+-- is left. Assumes nothing.
 use mathlib.Core.Path.{ap, _∙_}
 use native.Mathlib.Omega.{arith}
 use borrow.Author.Needs.{needs}

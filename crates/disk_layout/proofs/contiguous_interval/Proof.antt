@@ -1,5 +1,5 @@
--- `contiguous_interval` meets its contract: the length is within the room behind the start exactly when the end is within the region.
--- Assumes nothing.
+-- `contiguous_interval` meets its contract: the length is within the room behind the start exactly when the end is
+-- within the region. Assumes nothing.
 use Rattle.disk_layout.proofs.Intervals.{contiguous-past, contiguous-room}
 use borrow.Author.Needs.{needs}
 use Rattle.disk_layout.proofs.contiguous_interval.Statement.{statement}

@@ -1,5 +1,5 @@
--- `journal_back_interval` meets its contract: each return is the row of `backCall` that its tests lead to, and the back goes by the room alone (`back-none`, `back-some`).
--- Assumes nothing.
+-- `journal_back_interval` meets its contract: each return is the row of `backCall` that its tests lead to, and the
+-- back goes by the room alone (`back-none`, `back-some`). Assumes nothing.
 use Prim.Native.Nat.{_<_}
 use Rattle.disk_layout.proofs.Intervals.{valid-facts}
 use Rattle.disk_layout.proofs.Parts.{back-none, back-some}
@@ -17,7 +17,8 @@ use Rattle.disk_layout.proofs.journal_back_interval.Tie as tie
 ranged : (c : tie.Else1) → blocksInRange (c .before .before .args .n) ≡ true
 ranged c = passed (c .before .blocks-in-range .ensures) (c .if1 .left)
 
-valid : (c : tie.Else2) → let x = c .before .before .before .before .args in ValidJournalInterval (x .n) (interval (x .start) (x .len)) ≡ true
+valid : (c : tie.Else2) → let x = c .before .before .before .before .args in
+    ValidJournalInterval (x .n) (interval (x .start) (x .len)) ≡ true
 valid c = passed (c .before .valid-interval .ensures) (c .if2 .left)
 
 inside : (c : tie.Else2) → let x = c .before .before .before .before .args in x .start < x .n
@@ -53,4 +54,5 @@ returns-4 c = simp (ranged (c .before .before .before), valid (c .before), back-
 
 pub journal-back-interval-spec : {M : Type 1} → statement M
 journal-back-interval-spec =
-    tie.close (tie.spec blocks-in-range-requires returns valid-interval-requires returns-2 sub-room returns-3 sub-t10 returns-4)
+    tie.close (tie.spec blocks-in-range-requires returns valid-interval-requires returns-2 sub-room returns-3
+    sub-t10 returns-4)

@@ -15,7 +15,8 @@ use Rattle.disk_layout.proofs.journal_cyclic_interval_overlap.Tie as ti
 ranged : (c : tie.Else1) → blocksInRange (c .before .before .args .n) ≡ true
 ranged c = passed (c .before .blocks-in-range .ensures) (c .if1 .left)
 
-valid : (c : tie.Else2) → let x = c .before .before .before .before .args in (ValidJournalInterval (x .n) (x .a) && ValidJournalInterval (x .n) (x .b)) ≡ true
+valid : (c : tie.Else2) → let x = c .before .before .before .before .args in
+    (ValidJournalInterval (x .n) (x .a) && ValidJournalInterval (x .n) (x .b)) ≡ true
 valid c = passed (c .before .both-valid .ensures) (c .if2 .left)
 
 blocks-in-range-requires : tie.Need-blocks-in-range-requires
@@ -41,4 +42,5 @@ returns-3 c = simp (ranged (c .before .before .before), valid (c .before)) (ap g
 
 pub journal-cyclic-interval-overlap-spec : {M : Type 1} → statement M
 journal-cyclic-interval-overlap-spec =
-    tie.close (tie.spec blocks-in-range-requires returns both-valid-requires returns-2 cyclic-overlap-requires returns-3)
+    tie.close (tie.spec blocks-in-range-requires returns both-valid-requires returns-2 cyclic-overlap-requires
+    returns-3)

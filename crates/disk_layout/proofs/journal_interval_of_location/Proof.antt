@@ -33,7 +33,11 @@ unfolding intervalCall
 returns-2 c = simp (ranged (c .before .before), failed (c .before .valid-location .ensures) (c .if2 .taken))
 
 sub-t7 : tie.Need-sub-t7
-sub-t7 c = omega (arith, location-facts (c .before .before .before .before .before .args .n) (c .before .before .before .before .before .args .loc) (valid (c .before)))
+sub-t7 c = omega (
+  arith,
+  location-facts (c .before .before .before .before .before .args .n)
+      (c .before .before .before .before .before .args .loc) (valid (c .before)),
+)
 
 returns-3 : tie.Need-returns-3
 unfolding intervalCall

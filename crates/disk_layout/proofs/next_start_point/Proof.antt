@@ -1,5 +1,5 @@
--- `next_start_point` meets its contract: each return is the row of `nextStartCall`, and the case of `NextStartPoint`, that its tests lead to.
--- Assumes nothing.
+-- `next_start_point` meets its contract: each return is the row of `nextStartCall`, and the case of
+-- `NextStartPoint`, that its tests lead to. Assumes nothing.
 use Rattle.disk_layout.proofs.Intervals.{range-facts, valid-facts}
 use Rattle.refusals.proofs.Tests.{failed, passed}
 use Rattle.disk_layout.specs.Calls.{nextStartCall}
@@ -16,7 +16,8 @@ use Rattle.disk_layout.proofs.next_start_point.Tie as tie
 ranged : (c : tie.Else1) → blocksInRange (c .before .before .args .n) ≡ true
 ranged c = passed (c .before .blocks-in-range .ensures) (c .if1 .left)
 
-valid : (c : tie.Else2) → let x = c .before .before .before .before .args in ValidJournalInterval (x .n) (x .indices) ≡ true
+valid : (c : tie.Else2) → let x = c .before .before .before .before .args in
+    ValidJournalInterval (x .n) (x .indices) ≡ true
 valid c = passed (c .before .valid-interval .ensures) (c .if2 .left)
 
 blocks-in-range-requires : tie.Need-blocks-in-range-requires
@@ -34,7 +35,13 @@ unfolding nextStartCall NextStartPoint
 returns-2 c = simp (ranged (c .before .before), failed (c .before .valid-interval .ensures) (c .if2 .taken))
 
 add-end : tie.Need-add-end
-add-end c = omega (arith, range-facts (c .before .before .before .before .before .args .n) (ranged (c .before .before .before)), valid-facts (c .before .before .before .before .before .args .n) (c .before .before .before .before .before .args .indices) (valid (c .before)))
+add-end c = omega (
+  arith,
+  range-facts (c .before .before .before .before .before .args .n)
+      (ranged (c .before .before .before)),
+  valid-facts (c .before .before .before .before .before .args .n)
+      (c .before .before .before .before .before .args .indices) (valid (c .before)),
+)
 
 returns-3 : tie.Need-returns-3
 unfolding nextStartCall NextStartPoint

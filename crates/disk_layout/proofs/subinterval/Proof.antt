@@ -15,7 +15,8 @@ use Rattle.disk_layout.proofs.subinterval.Tie as tie
 ranged : (c : tie.Else1) → blocksInRange (c .before .before .args .n) ≡ true
 ranged c = passed (c .before .blocks-in-range .ensures) (c .if1 .left)
 
-valid : (c : tie.Else2) → let x = c .before .before .before .before .args in (ValidJournalInterval (x .n) (x .a) && ValidJournalInterval (x .n) (x .b)) ≡ true
+valid : (c : tie.Else2) → let x = c .before .before .before .before .args in
+    (ValidJournalInterval (x .n) (x .a) && ValidJournalInterval (x .n) (x .b)) ≡ true
 valid c = passed (c .before .both-valid .ensures) (c .if2 .left)
 
 blocks-in-range-requires : tie.Need-blocks-in-range-requires

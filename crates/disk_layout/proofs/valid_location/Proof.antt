@@ -25,7 +25,11 @@ sub-result : tie.Need-sub-result
 sub-result c = search needs
 
 returns-4 : tie.Need-returns-4
-returns-4 c = location-room _ _ (c .before .before .before .before .before .before .before .before .before .before .pre) (c .before .before .before .before .before .before .before .before .if1 .left) (c .before .before .before .before .before .before .if2 .left) (c .before .before .before .before .if3 .left) (c .before .before .if4 .taken)
+returns-4 c = location-room _ _
+    (c .before .before .before .before .before .before .before .before .before .before .pre)
+    (c .before .before .before .before .before .before .before .before .if1 .left)
+    (c .before .before .before .before .before .before .if2 .left) (c .before .before .before .before .if3 .left)
+    (c .before .before .if4 .taken)
 
 returns-5 : tie.Need-returns-5
 returns-5 c = location-past _ _ (c .if4 .left)

@@ -24,8 +24,10 @@ interval-overlap-requires-2 c κs = search needs
 
 returns-2 : tie.Need-returns-2
 unfolding wrappedOverlap
-returns-2 c = simp (told (c .before .before .before .interval-overlap .ensures) (c .before .before .if1 .left)) (c .interval-overlap2 .ensures)
+returns-2 c = simp (told (c .before .before .before .interval-overlap .ensures) (c .before .before .if1 .left))
+    (c .interval-overlap2 .ensures)
 
 pub wrapped-overlap-spec : {M : Type 1} → statement M
 wrapped-overlap-spec =
-    tie.close (tie.spec sub-room interval-overlap-requires returns sub-interval-overlap interval-overlap-requires-2 returns-2)
+    tie.close (tie.spec sub-room interval-overlap-requires returns sub-interval-overlap interval-overlap-requires-2
+    returns-2)

@@ -45,8 +45,10 @@ part-list-entries-end c =
     let start = c .before .before .before .before .before .before .before .before .before .before .before .before in
     let call = c .before .before .before .before .before .before .load in
     let told = c .before .before .load2 .given in
-    loaded-within (start .args .payload .now) (start .args .replay .now) (told .0 .0) (told .0 .1 .0) (call .last .1 .1 .0)
-    (loaded (start .args .payload .now) (start .args .replay .now) (told .0 .0) (told .0 .1 .0) (call .last .1 .1 .0) (sym (call .ensures .0) ∙ told .1) (call .ensures .1))
+    loaded-within (start .args .payload .now) (start .args .replay .now) (told .0 .0) (told .0 .1 .0)
+    (call .last .1 .1 .0)
+    (loaded (start .args .payload .now) (start .args .replay .now) (told .0 .0) (told .0 .1 .0)
+    (call .last .1 .1 .0) (sym (call .ensures .0) ∙ told .1) (call .ensures .1))
     (call .kept .1 .1 .0)
 
 list-entries-requires : tie.Need-list-entries-requires
@@ -60,9 +62,11 @@ same-length-2 c = search needs
 
 returns : tie.Need-returns
 returns c =
-    let start = c .before .before .before .before .before .before .before .before .before .before .before .before .before .before .before in
+    let start = c .before .before .before .before .before .before .before .before .before .before .before .before
+    .before .before .before in
     unreadable-listed (start .args .payload .now) (start .args .text .now) (length (start .args .replay .now)) _ _
-    (sym (c .before .before .before .before .before .before .before .before .before .load .ensures .0) ∙ c .before .before .before .before .before .enum-told .given .1)
+    (sym (c .before .before .before .before .before .before .before .before .before .load .ensures .0)
+    ∙ c .before .before .before .before .before .enum-told .given .1)
     (c .before .before .before .before .number .ensures)
     (c .before .before .list-refusal .ensures)
 
@@ -83,11 +87,14 @@ same-length-5 c = search needs
 
 returns-3 : tie.Need-returns-3
 returns-3 c =
-    let start = c .before .before .before .before .before .before .before .before .before .before .before .before .before .before .before .before .before in
+    let start = c .before .before .before .before .before .before .before .before .before .before .before .before
+    .before .before .before .before .before in
     let call = c .before .before .before .before .before .before .before .before .before .before .before .load in
     let told = c .before .before .before .before .before .before .before .load2 .given in
-    loaded-listed (start .args .payload .now) (start .args .replay .now) (start .args .text .now) (told .0 .0) (told .0 .1 .0) (call .last .1 .1 .0) _
-    (loaded (start .args .payload .now) (start .args .replay .now) (told .0 .0) (told .0 .1 .0) (call .last .1 .1 .0) (sym (call .ensures .0) ∙ told .1) (call .ensures .1))
+    loaded-listed (start .args .payload .now) (start .args .replay .now) (start .args .text .now) (told .0 .0)
+    (told .0 .1 .0) (call .last .1 .1 .0) _
+    (loaded (start .args .payload .now) (start .args .replay .now) (told .0 .0) (told .0 .1 .0)
+    (call .last .1 .1 .0) (sym (call .ensures .0) ∙ told .1) (call .ensures .1))
     (c .before .before .list-entries .ensures)
 
 pub list-payload-spec : {M : Type 1} → statement M

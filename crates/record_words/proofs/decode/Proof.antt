@@ -29,7 +29,11 @@ side-reads-requires c κs = search needs
 
 returns-3 : tie.Need-returns-3
 unfolding decodeOf wordsRead
-returns-3 c = simp (le-leb _ _ (c .before .before .before .before .before .before .if1 .left), eq-eqb _ _ (c .before .before .before .before .if2 .left), failed (c .before .side-reads .ensures) (c .if3 .taken))
+returns-3 c = simp (
+  le-leb _ _ (c .before .before .before .before .before .before .if1 .left),
+  eq-eqb _ _ (c .before .before .before .before .if2 .left),
+  failed (c .before .side-reads .ensures) (c .if3 .taken),
+)
 
 shared-slice-read-side-reads-3 : tie.Need-shared-slice-read-side-reads-3
 shared-slice-read-side-reads-3 c = search needs
@@ -43,8 +47,13 @@ side-reads-requires-2 c κs = search needs
 returns-4 : tie.Need-returns-4
 unfolding decodeOf wordsRead
 returns-4 c =
-    simp
-    (le-leb _ _ (c .before .before .before .before .before .before .before .before .before .before .if1 .left), eq-eqb _ _ (c .before .before .before .before .before .before .before .before .if2 .left), passed (c .before .before .before .before .before .side-reads .ensures) (c .before .before .before .before .if3 .left), failed (c .before .side-reads2 .ensures) (c .if4 .taken))
+    simp (
+      le-leb _ _ (c .before .before .before .before .before .before .before .before .before .before .if1 .left),
+      eq-eqb _ _ (c .before .before .before .before .before .before .before .before .if2 .left),
+      passed (c .before .before .before .before .before .side-reads .ensures)
+          (c .before .before .before .before .if3 .left),
+      failed (c .before .side-reads2 .ensures) (c .if4 .taken),
+    )
 
 shared-slice-read-t5 : tie.Need-shared-slice-read-t5
 shared-slice-read-t5 c = search needs
@@ -103,9 +112,17 @@ side-requires-2 c κs = search needs
 returns-5 : tie.Need-returns-5
 unfolding decodeOf wordsRead recordAt
 returns-5 c =
-    let t = c .before .before .before .before .before .before .before .before .before .before .before .before .before .before .before .before .before .before in
-    simp
-    (le-leb _ _ (t .before .before .before .before .before .before .before .before .before .before .if1 .left), eq-eqb _ _ (t .before .before .before .before .before .before .before .before .if2 .left), passed (t .before .before .before .before .before .side-reads .ensures) (t .before .before .before .before .if3 .left), passed (t .before .side-reads2 .ensures) (t .if4 .left), c .before .before .before .side .ensures, c .side2 .ensures)
+    let t = c .before .before .before .before .before .before .before .before .before .before .before .before
+    .before .before .before .before .before .before in
+    simp (
+      le-leb _ _ (t .before .before .before .before .before .before .before .before .before .before .if1 .left),
+      eq-eqb _ _ (t .before .before .before .before .before .before .before .before .if2 .left),
+      passed (t .before .before .before .before .before .side-reads .ensures)
+          (t .before .before .before .before .if3 .left),
+      passed (t .before .side-reads2 .ensures) (t .if4 .left),
+      c .before .before .before .side .ensures,
+      c .side2 .ensures,
+    )
 
 pub decode-spec : {M : Type 1} → statement M
 decode-spec =

@@ -1,4 +1,4 @@
--- `record_words::store` meets its contract: seventeen stores, one behind the other.
+-- `record_words::store` meets its contract: a store for each word, one behind the other.
 -- Assumes nothing.
 use native.Mathlib.Omega.{arith}
 use lib.ListN.{length-set}
@@ -77,7 +77,12 @@ same-length c = simp length-set
 returns : tie.Need-returns
 returns c =
     let s = c .before .before .before .before .before in
-    simp (c .before .before .before .flag-of .ensures, c .before .before .blocks-of .ensures, c .before .flag-of2 .ensures, c .blocks-of2 .ensures)
+    simp (
+      c .before .before .before .flag-of .ensures,
+      c .before .before .blocks-of .ensures,
+      c .before .flag-of2 .ensures,
+      c .blocks-of2 .ensures,
+    )
     (sets-eq (wordsOf (s .args .j)) (s .args .words .now) 0 (s .pre))
 
 pub store-spec : {M : Type 1} → statement M

@@ -1,0 +1,122 @@
+//! A record's words as numbers, and whether they hang together.
+use super::super::block::PAYLOAD;
+
+/// Words that calls change.
+pub const START: usize = 3;
+pub const FROZEN: usize = 4;
+pub const MEMORY: usize = 6;
+pub const WRITTEN: usize = 8;
+pub const HELD: usize = 9;
+pub const PLACE: usize = 10;
+pub const FRONT: usize = 13;
+pub const BACK: usize = 15;
+
+pub use super::super::journalist::WORDS;
+
+const MOST_BLOCKS: usize = 1_024;
+const LONGEST_RING: usize = 8_388_608;
+
+/// The count of some entries, and that of the bytes of their wire forms.
+#[derive(Clone, Copy)]
+pub struct List {
+    pub entries: usize,
+    pub bytes: usize,
+}
+
+impl List {
+    fn of(entries: u64, bytes: u64) -> Self {
+        List { entries: entries as usize, bytes: bytes as usize }
+    }
+
+    /// Of a list that is in a ring, so that the sum is small.
+    pub fn weight(self) -> usize {
+        if self.entries == 0 {
+            0
+        } else {
+            8 + self.bytes
+        }
+    }
+
+    /// The blocks that a batch of them needs.
+    pub fn blocks(self) -> usize {
+        self.weight().div_ceil(PAYLOAD)
+    }
+
+    pub fn hangs(self) -> bool {
+        if self.entries == 0 {
+            self.bytes == 0
+        } else {
+            self.entries <= self.bytes / 8
+        }
+    }
+}
+
+pub struct Record {
+    pub n: usize,
+    pub r: usize,
+    pub start: usize,
+    pub frozen: List,
+    pub memory: List,
+    pub written: usize,
+    /// The frozen blocks.
+    pub held: usize,
+    pub place: usize,
+    pub replay: List,
+    /// The blocks of front and of back; nothing where the side is absent.
+    pub front: Option<usize>,
+    pub back: Option<usize>,
+}
+
+pub fn in_range(n: usize, r: usize) -> bool {
+    (1..=MOST_BLOCKS).contains(&n) && r <= LONGEST_RING
+}
+
+fn side(present: u64, blocks: u64) -> Option<Option<usize>> {
+    match (present, blocks) {
+        (0, 0) => Some(None),
+        (1, blocks) => Some(Some(blocks as usize)),
+        _ => None,
+    }
+}
+
+impl Record {
+    /// The record of these words, or 2.
+    pub fn of(words: &[u64]) -> Result<Self, u64> {
+        Record::said(words).filter(Record::hangs).ok_or(2)
+    }
+
+    fn said(words: &[u64]) -> Option<Self> {
+        let w = words.first_chunk::<WORDS>().filter(|words| words[0] == 1)?;
+        Some(Record {
+            n: w[1] as usize,
+            r: w[2] as usize,
+            start: w[START] as usize,
+            frozen: List::of(w[FROZEN], w[FROZEN + 1]),
+            memory: List::of(w[MEMORY], w[MEMORY + 1]),
+            written: w[WRITTEN] as usize,
+            held: w[HELD] as usize,
+            place: w[PLACE] as usize,
+            replay: List::of(w[PLACE + 2], w[PLACE + 1]),
+            front: side(w[FRONT], w[FRONT + 1])?,
+            back: side(w[BACK], w[BACK + 1])?,
+        })
+    }
+
+    /// A test that stands behind another may count on it: no sum or product is too large.
+    fn hangs(&self) -> bool {
+        let Record { n, r, start, frozen, memory, written, held, .. } = *self;
+        in_range(n, r)
+            && (start < r || start == 0 && r == 0)
+            && frozen.bytes <= r
+            && memory.bytes <= r - frozen.bytes
+            && frozen.hangs()
+            && memory.hangs()
+            && self.replay.hangs()
+            && written <= n
+            && held <= n - written
+            && memory.weight() <= PAYLOAD * (n - written - held)
+            && frozen.weight() <= PAYLOAD * held
+            && self.front.unwrap_or(0) <= n
+            && self.back.unwrap_or(0) <= n
+    }
+}

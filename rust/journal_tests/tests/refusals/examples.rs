@@ -1,0 +1,116 @@
+//! The example in each row of the table, and the document's two cases that need whole calls.
+use crate::{weighing, Case, Table};
+use journal_tests::call::{Call, Call::*};
+use journal_tests::memory::Lent;
+use journal_tests::model::block::BLOCK;
+use journal_tests::model::journalist::WORDS;
+use journal_tests::model::writing::{self, Entry};
+
+pub fn run(table: &mut Table) {
+    examples(table);
+    a_full_region(table);
+    two_freezes(table);
+}
+
+/// What a call does to a record, where it is lent these bytes.
+struct Session<'a> {
+    table: &'a mut Table,
+    words: Vec<u64>,
+    ring: Vec<u8>,
+}
+
+impl<'a> Session<'a> {
+    fn open(table: &'a mut Table, n: u64, r: u64) -> Self {
+        let words = vec![7; WORDS];
+        let lent = Lent { words, ..Lent::default() };
+        let Lent { words, .. } = table.accepted(&Case { call: Open { n, r }, lent });
+        Session { table, words, ring: vec![0xA5; r as usize] }
+    }
+
+    /// What the call gives and, where it is accepted, leaves in the bytes that it writes.
+    fn call(&mut self, call: Call, read: [&[u8]; 2], written: &[u8]) -> (u64, Vec<u8>) {
+        let read = read.map(<[u8]>::to_vec);
+        let lent =
+            Lent { words: self.words.clone(), read, written: written.into(), answer: vec![] };
+        let code = self.table.gives(&Case { call, lent });
+        let Lent { words, written, .. } = self.table.memory.lent();
+        self.words = words;
+        (code, written)
+    }
+
+    fn append(&mut self, Entry { is_clone, first, second }: &Entry) -> u64 {
+        let call = if *is_clone { AppendClone } else { AppendInsert };
+        let (code, ring) = self.call(call, [first, second], &self.ring.clone());
+        self.ring = ring;
+        code
+    }
+
+    fn package(&mut self, call: Call, room: usize) -> u64 {
+        self.call(call, [&self.ring.clone(), &[]], &vec![0xA5; room]).0
+    }
+}
+
+/// The example in each row, and what is just within the limit.
+fn examples(table: &mut Table) {
+    table.refused(&Case { call: Open { n: 0, r: 0 }, lent: Lent::default() }, 1);
+    let clone = |second| Entry { is_clone: true, first: vec![], second: vec![0; second] };
+    let insert = |first| Entry { is_clone: false, first: vec![0; first], second: vec![] };
+
+    let mut session = Session::open(table, 1, 10);
+    assert_eq!(session.append(&weighing(11)), 6);
+    assert_eq!(session.append(&weighing(10)), 0);
+
+    let mut session = Session::open(table, 10, 40_640);
+    assert_eq!([513, 512].map(|n| session.append(&insert(n))), [3, 0]);
+    assert_eq!([513, 512].map(|n| session.append(&clone(n))), [4, 0]);
+    assert_eq!(session.call(Freeze, [&[]; 2], &[]).0, 0);
+    assert_eq!(session.append(&weighing(8)), 0);
+    assert_eq!(session.package(PackageInMemory, BLOCK), 7);
+    let right = session.ring.clone();
+    session.ring[1] = 0x20;
+    assert_eq!(session.package(PackageFrozen, BLOCK), 15);
+    session.ring = right;
+    assert_eq!([4_095, 4_096].map(|n| session.package(PackageFrozen, n)), [9, 0]);
+    assert_eq!([4_095, 4_096].map(|n| session.package(PackageInMemory, n)), [9, 0]);
+    assert_eq!(session.call(Pop, [&[]; 2], &[]).0, 8);
+    assert_eq!([11, 10].map(|n| session.call(SetWritten(n), [&[]; 2], &[]).0), [10, 0]);
+    session.words[8] = 11;
+    assert_eq!(session.call(Freeze, [&[]; 2], &[]).0, 2);
+
+    let mut payload = writing::batch(&[weighing(100)], 0);
+    let mut image = writing::image(&payload);
+    let mut session = Session::open(table, 10, 0);
+    assert_eq!(session.call(Strip, [&[&image[..], &[0]].concat(), &[]], &[0; 4_096]).0, 11);
+    image[100] ^= 1;
+    assert_eq!(session.call(Strip, [&image, &[]], &[0; 4_096]).0, 12);
+    let lent = [0; 4_064];
+    assert_eq!(session.call(SetFront, [&payload[..4_063], &[]], &lent).0, 13);
+    payload[4] = 0;
+    assert_eq!(session.call(SetFront, [&payload, &[]], &lent).0, 0);
+    assert_eq!(session.call(Load, [&payload, &[]], &lent).0, 14);
+}
+
+/// In a region of one block: 1544, 1544 and 968 fill it. Then any append is refused, as is 969 last.
+fn a_full_region(table: &mut Table) {
+    for last in [968, 969] {
+        let mut session = Session::open(table, 1, 4_064);
+        assert_eq!([1_544, 1_544].map(|n| session.append(&weighing(n))), [0, 0]);
+        assert_eq!(session.append(&weighing(last)), if last == 968 { 0 } else { 5 });
+        if last == 968 {
+            assert_eq!(session.words[6..8], [3, 4_056]);
+            assert_eq!(session.append(&weighing(8)), 5);
+        }
+    }
+}
+
+/// Two entries of weight 16, frozen one by one: two blocks.
+fn two_freezes(table: &mut Table) {
+    let mut session = Session::open(table, 2, 32);
+    for _ in 0..2 {
+        assert_eq!(session.append(&weighing(16)), 0);
+        assert_eq!(session.call(Freeze, [&[]; 2], &[]).0, 0);
+    }
+    assert_eq!(session.words[4..10], [2, 32, 0, 0, 0, 2]);
+    assert_eq!([8_191, 8_192].map(|n| session.package(PackageFrozen, n)), [9, 0]);
+    assert_eq!(session.words[4..10], [0, 0, 0, 0, 2, 0]);
+}
