@@ -10,8 +10,8 @@ import sys
 
 sys.dont_write_bytecode = True      # nothing is left in the folder
 
-from batches import (AB, ALL_BYTES, CLONED, EMPTY, FIRST, LONGEST, TO, VALUE, WORDS, batches_at_random, entry, entry_weighing, filling,
-                     fitting, joined, known)
+from batches import (AB, ALL_BYTES, CLONED, EMPTY, FIRST, LONGEST, TO, VALUE, WORDS, batches_at_random, entry,
+                     entry_weighing, filling, fitting, joined, known)
 from damage import checksum_damage, damaged, head_damage, payload_damage, second_head_damage, torn, two_damaged
 from writer import batch, flip, form, image, put, refused, seal, text, weight, word
 

@@ -2,8 +2,8 @@
 
 python3 tests/written_test.py PATH_TO_WRITTEN
 
-The program's output is taken as rust/src/bin/written.rs says. Ends with status 1 at the first difference, or if a
-kind of image was never seen.
+The program's output is taken as rust/journal_tests/src/bin/written.rs says. Ends with status 1 at the first
+difference, or if a kind of image was never seen.
 """
 import collections
 import os
