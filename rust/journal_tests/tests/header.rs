@@ -15,7 +15,7 @@ fn defined() -> BTreeMap<&'static str, u64> {
 }
 
 /// Every refusal, by its name in the header.
-const REFUSALS: [(&str, Refusal); 16] = [
+const REFUSALS: &[(&str, Refusal)] = &[
     ("SIZE_OUT_OF_RANGE", Refusal::SizeOutOfRange),
     ("COUNTS_DISAGREE", Refusal::CountsDisagree),
     ("FIRST_TOO_LONG", Refusal::FirstTooLong),
@@ -34,7 +34,7 @@ const REFUSALS: [(&str, Refusal); 16] = [
     ("PLACE_NOT_VALID", Refusal::PlaceNotValid),
 ];
 
-const PLACES: [(&str, usize); 17] = [
+const PLACES: &[(&str, usize)] = &[
     ("WORD_LAYOUT", word::LAYOUT),
     ("WORD_N", word::N),
     ("WORD_R", word::R),
@@ -54,7 +54,7 @@ const PLACES: [(&str, usize); 17] = [
     ("WORD_BACK_BLOCKS", word::BACK_BLOCKS),
 ];
 
-const SIZES: [(&str, u64); 9] = [
+const SIZES: &[(&str, u64)] = &[
     ("WORDS", nungakes::WORDS as u64),
     ("LAYOUT", nungakes::LAYOUT),
     ("BLOCK", nungakes::BLOCK as u64),
@@ -71,9 +71,9 @@ const OF_C_ALONE: [&str; 3] = ["TOP", "INSERT", "CLONE"];
 
 #[test]
 fn the_same_numbers() {
-    let refusals = REFUSALS.map(|(name, refusal)| (name, refusal.number().into()));
-    let places = PLACES.map(|(name, place)| (name, place as u64));
-    let in_rust: BTreeMap<_, _> = refusals.into_iter().chain(places).chain(SIZES).collect();
+    let refusals = REFUSALS.iter().map(|&(name, refusal)| (name, refusal.number().into()));
+    let places = PLACES.iter().map(|&(name, place)| (name, place as u64));
+    let in_rust: BTreeMap<_, _> = refusals.chain(places).chain(SIZES.iter().copied()).collect();
     let mut in_c = defined();
     for name in OF_C_ALONE {
         assert!(in_c.remove(name).is_some(), "{name} is not defined");
@@ -99,7 +99,7 @@ fn codes() {
     texts.sort();
     texts.dedup();
     assert!(texts.len() == REFUSALS.len() && texts.iter().all(|text| !text.is_empty()));
-    for (_, refusal) in REFUSALS {
+    for &(_, refusal) in REFUSALS {
         assert_eq!(Refusal::of_code(refusal.number().into()), Some(refusal));
     }
     let named = Refusal::of_code(12 + 256 * 300);

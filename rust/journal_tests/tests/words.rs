@@ -1,6 +1,6 @@
 //! The record's calls on words, as a C caller has them: one journal from its opening to its replay,
 //! with the layout of the words written out; and words that say no record.
-use journal_tests::model::journalist::WORDS;
+use journal_tests::model::journalist::{LAYOUT, WORDS};
 use nungakes::calls;
 
 const RING: usize = 600;
@@ -11,7 +11,7 @@ const BEHIND: u64 = 0xDEAD;
 /// A record with nothing in it, by the layout.
 fn empty() -> [u64; WORDS + 1] {
     let mut words = [0; WORDS + 1];
-    words[..3].copy_from_slice(&[1, BLOCKS, RING as u64]);
+    words[..3].copy_from_slice(&[LAYOUT, BLOCKS, RING as u64]);
     words[WORDS] = BEHIND;
     words
 }
@@ -62,11 +62,11 @@ fn one_journal() {
     assert_eq!(calls::set_front(&mut words, &payload[..4000], &mut front), 13);
     assert_eq!(calls::set_front(&mut words, &payload[..4064], &mut front), 0);
     assert_eq!(calls::set_back(&mut words, &payload[4064..], &mut back), 0);
-    assert_eq!(words[13..], [1, 1, 1, 1, BEHIND]);
+    assert_eq!(words[13..17], [1, 1, 1, 1]);
     assert_eq!((asked(calls::has_front, &words), asked(calls::has_back, &words)), (1, 1));
     assert_eq!(calls::load(&mut words, &front, &back, &mut replay[..29]), 9);
     assert_eq!(calls::load(&mut words, &front, &back, &mut replay), 0);
-    assert_eq!(words[10..], [0, 30, 2, 0, 0, 0, 0, BEHIND]);
+    assert_eq!(words[10..17], [0, 30, 2, 0, 0, 0, 0]);
     assert_eq!(replay[..30], ring[..30]);
 
     let mut top = [7; 6];
@@ -85,13 +85,13 @@ fn one_journal() {
     assert_eq!(calls::update_written(&mut words, 3), 10);
     assert_eq!(calls::update_written(&mut words, 1), 0);
     assert_eq!(calls::set_written(&mut words, 4), 0);
-    assert_eq!(words[8], 4);
+    assert_eq!((words[8], words[WORDS]), (4, BEHIND));
 }
 
 #[test]
 fn damaged_words() {
     let mut damaged = vec![empty()[..WORDS - 1].to_vec(), vec![]];
-    for (place, word) in [(0, 0), (0, 2), (13, 2), (14, 1), (15, u64::MAX), (16, 1)] {
+    for (place, word) in [(0, 0), (0, LAYOUT + 1), (13, 2), (14, 1), (15, u64::MAX), (16, 1)] {
         let mut words = empty();
         words[place] = word;
         damaged.push(words.to_vec());

@@ -5,9 +5,9 @@ use super::entries;
 use super::reading::{CLONED, FIRST, INSERTED};
 use super::writing::{self, Entry};
 
-/// The words of a record, and the version of their layout, which is the first of them.
+/// The words of a record, and their layout, which is the first of them.
 pub const WORDS: usize = 17;
-const VERSION: u64 = 1;
+pub const LAYOUT: u64 = 1;
 
 const MOST_BLOCKS: u64 = 1_024;
 const LONGEST_RING: u64 = 8_388_608;
@@ -95,7 +95,7 @@ fn side(present: u64, blocks: u64) -> Option<Option<u64>> {
 
 impl Record {
     fn of(words: &[u64]) -> Option<Self> {
-        let w = words.first_chunk::<WORDS>().filter(|words| words[0] == VERSION)?;
+        let w = words.first_chunk::<WORDS>().filter(|words| words[0] == LAYOUT)?;
         Some(Record {
             n: w[1],
             r: w[2],
@@ -122,7 +122,7 @@ impl Record {
         let side = |side: Option<u64>| [side.is_some().into(), side.unwrap_or(0)];
         let list = |List { entries, bytes }| [entries, bytes];
         let replay = [self.place, self.replay.bytes, self.replay.entries];
-        words[..3].copy_from_slice(&[VERSION, self.n, self.r]);
+        words[..3].copy_from_slice(&[LAYOUT, self.n, self.r]);
         words[3] = self.start;
         words[4..8].copy_from_slice([self.frozen, self.memory].map(list).as_flattened());
         words[8..10].copy_from_slice(&[self.written, self.held]);
@@ -174,7 +174,7 @@ pub fn open(words: &mut [u64], n: u64, r: u64) -> u64 {
         return 9;
     };
     *words = [0; WORDS];
-    words[..3].copy_from_slice(&[VERSION, n, r]);
+    words[..3].copy_from_slice(&[LAYOUT, n, r]);
     0
 }
 

@@ -2,7 +2,7 @@
 use journal_tests::call::{Call, Call::*, NUMBERLESS, QUERIES};
 use journal_tests::memory::Lent;
 use journal_tests::model::block::{BLOCK, PAYLOAD};
-use journal_tests::model::journalist;
+use journal_tests::model::journalist::{self, LAYOUT};
 use journal_tests::model::writing::{self, Entry};
 use journal_tests::random::Random;
 
@@ -90,7 +90,7 @@ impl State {
 
         let counts = |list: &[Entry]| [list.len(), forms(list).len()];
         let mut words: Vec<u64> = [
-            &[1, n, r, start][..],
+            &[LAYOUT as usize, n, r, start][..],
             &counts(&frozen),
             &counts(&memory),
             &[written, held, place, forms_left.len(), left.len()],

@@ -7,7 +7,7 @@ mod order;
 
 use journal_tests::call::Call;
 use journal_tests::memory::{Lent, Memory};
-use journal_tests::model::journalist::WORDS;
+use journal_tests::model::journalist::{LAYOUT, WORDS};
 use journal_tests::model::writing::Entry;
 use std::collections::{BTreeMap, BTreeSet};
 
@@ -53,7 +53,7 @@ impl Table {
 /// The words of an empty record.
 fn empty(n: u64, r: u64) -> Vec<u64> {
     let mut words = vec![0; WORDS];
-    words[..3].copy_from_slice(&[1, n, r]);
+    words[..3].copy_from_slice(&[LAYOUT, n, r]);
     words
 }
 

@@ -3,7 +3,7 @@ use crate::{empty, forms, weighing, with, Case, Table};
 use journal_tests::call::{Call::*, QUERIES};
 use journal_tests::memory::Lent;
 use journal_tests::model::block::{BLOCK, PAYLOAD};
-use journal_tests::model::journalist::WORDS;
+use journal_tests::model::journalist::{LAYOUT, WORDS};
 use journal_tests::model::writing;
 use std::collections::BTreeSet;
 
@@ -47,11 +47,11 @@ fn written_past(case: &mut Case) {
 }
 
 fn words_short(case: &mut Case) {
-    case.lent.words.truncate(16);
+    case.lent.words.truncate(WORDS - 1);
 }
 
-fn another_version(case: &mut Case) {
-    case.lent.words[0] = 2;
+fn another_layout(case: &mut Case) {
+    case.lent.words[0] = LAYOUT + 1;
 }
 
 fn written_short(case: &mut Case) {
@@ -79,7 +79,7 @@ fn no_answer(case: &mut Case) {
 }
 
 /// What any call on a record is refused for.
-const DAMAGED: [Fault; 3] = [written_past, words_short, another_version];
+const DAMAGED: [Fault; 3] = [written_past, words_short, another_layout];
 
 fn opening(table: &mut Table) {
     let base = |n, r| Case {

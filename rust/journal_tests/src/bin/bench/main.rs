@@ -11,7 +11,7 @@ mod small;
 
 use journal_tests::model::crc;
 use journal_tests::random::Random;
-use nungakes::WORDS;
+use nungakes::{LAYOUT, WORDS};
 use pieces::Pieces;
 use std::hint::black_box;
 use std::time::Instant;
@@ -76,7 +76,7 @@ type Words = [u64; WORDS];
 /// An empty record of the largest region, with other words at these places.
 fn record(r: usize, others: &[(usize, usize)]) -> Words {
     let mut words = [0; WORDS];
-    words[..3].copy_from_slice(&[1, 1_024, r as u64]);
+    words[..3].copy_from_slice(&[LAYOUT, 1_024, r as u64]);
     for &(at, word) in others {
         words[at] = word as u64;
     }

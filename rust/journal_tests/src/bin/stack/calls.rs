@@ -2,7 +2,7 @@
 use journal_tests::model::block::{BLOCK, PAYLOAD};
 use journal_tests::model::writing::{self, Entry};
 use journal_tests::random::Random;
-use nungakes::{raw, WORDS};
+use nungakes::{raw, LAYOUT, WORDS};
 
 pub struct Row {
     pub name: &'static str,
@@ -46,7 +46,7 @@ pub fn filled<T>(s: &mut [T]) -> [u64; 2] {
 /// An empty record with other words at these places.
 fn record(n: usize, r: usize, others: &[(usize, usize)]) -> Option<[u64; WORDS]> {
     let mut words = [0; WORDS];
-    words[..3].copy_from_slice(&[1, n as u64, r as u64]);
+    words[..3].copy_from_slice(&[LAYOUT, n as u64, r as u64]);
     for &(at, word) in others {
         words[at] = word as u64;
     }

@@ -8,7 +8,9 @@ pub use super::block::strip;
 use super::block::{BLOCK, PAYLOAD};
 use super::reading::{Joined, CLONED, FIRST, INSERTED};
 use forms::Lengths;
-use record::{in_range, Record, BACK, FRONT, FROZEN, HELD, MEMORY, PLACE, START, WORDS, WRITTEN};
+use record::{
+    in_range, Record, BACK, FRONT, FROZEN, HELD, LAYOUT, MEMORY, PLACE, START, WORDS, WRITTEN,
+};
 
 fn require(condition: bool, number: u64) -> Result<(), u64> {
     condition.then_some(()).ok_or(number)
@@ -27,7 +29,7 @@ pub fn open(words: &mut [u64], n: u64, r: u64) -> u64 {
         return 9;
     };
     *words = [0; WORDS];
-    words[..3].copy_from_slice(&[1, n, r]);
+    words[..3].copy_from_slice(&[LAYOUT, n, r]);
     0
 }
 

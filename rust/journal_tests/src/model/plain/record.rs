@@ -11,7 +11,7 @@ pub const PLACE: usize = 10;
 pub const FRONT: usize = 13;
 pub const BACK: usize = 15;
 
-pub use super::super::journalist::WORDS;
+pub use super::super::journalist::{LAYOUT, WORDS};
 
 const MOST_BLOCKS: usize = 1_024;
 const LONGEST_RING: usize = 8_388_608;
@@ -86,7 +86,7 @@ impl Record {
     }
 
     fn said(words: &[u64]) -> Option<Self> {
-        let w = words.first_chunk::<WORDS>().filter(|words| words[0] == 1)?;
+        let w = words.first_chunk::<WORDS>().filter(|words| words[0] == LAYOUT)?;
         Some(Record {
             n: w[1] as usize,
             r: w[2] as usize,
