@@ -33,8 +33,8 @@ crc-lt bs bytes = xor-lt 32 (foldl stepByte allOnes bs) allOnes (fold-lt bs byte
 
 pub length-checksumBytes : (bs : List ℕ) → length (checksumBytes bs) ≡ 32
 unfolding checksumBytes
-length-checksumBytes bs = length-append (word (crc32cOf bs)) (replicate 28 0)
-    ∙ ap (λ (n : ℕ). n + 28) (length-word (crc32cOf bs))
+length-checksumBytes bs =
+    length-append (word (crc32cOf bs)) (replicate 28 0) ∙ ap (λ (n : ℕ). n + 28) (length-word (crc32cOf bs))
 
 pub checksum-says-crc : (bs : List ℕ) → Bytes bs → unpack (take 4 (checksumBytes bs)) ≡ crc32cOf bs
 unfolding checksumBytes word

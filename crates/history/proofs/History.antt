@@ -37,8 +37,8 @@ after-step n w i (query q) = after-query n w i q
 after-run : (n : ℕ) (w : World) (cs : List Call) → Invariant n w → Invariant n (run w cs)
 unfolding run
 after-run n w [] i = i
-after-run n w (c ∷ cs) i = after-run n (following w (toldOf c) (step c (w .journalist) (w .ring))) cs
-    (after-step n w i c)
+after-run n w (c ∷ cs) i =
+    after-run n (following w (toldOf c) (step c (w .journalist) (w .ring))) cs (after-step n w i c)
 
 -- THE HISTORY RULE
 pub history : History

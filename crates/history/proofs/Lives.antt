@@ -41,5 +41,5 @@ after-life payload es payload′ es′ h l =
 pub lives : LivesRule
 unfolding Lives
 lives zero payload es h = rw (h .0, h .1) (replays [] [] refl parsePayload-nil)
-lives (suc k) payload es h = after-life (h .before) (h .old) payload es
-    (lives k (h .before) (h .old) (h .lived-before)) (h .life)
+lives (suc k) payload es h =
+    after-life (h .before) (h .old) payload es (lives k (h .before) (h .old) (h .lived-before)) (h .life)

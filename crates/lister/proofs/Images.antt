@@ -105,8 +105,8 @@ module _ (image : List ℕ) (payload replay : ℕ) (text : List ℕ) (room : Roo
     pub strip-damaged : (block : ℕ) (x : Listed × List ℕ) → stripCall image out ≡ refusesBlock 12 block
         → x ≡ listedRefusal 12 text
         → x ≡ listedImage image payload replay text
-    strip-damaged block x e told = refused-with 12 (refusesBlock 12 block) x
-        (entries (refusesBlock 12 block) e) refl told
+    strip-damaged block x e told =
+        refused-with 12 (refusesBlock 12 block) x (entries (refusesBlock 12 block) e) refl told
 
     -- the text of a payload of at most fifteen blocks
     payload-written : (p : List ℕ) (o : Option (List JournalEntry)) → rangeOf p ≡ o → length p ≤ 60960

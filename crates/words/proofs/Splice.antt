@@ -29,8 +29,8 @@ module _ (d : List ℕ) (at : ℕ) (x : List ℕ) (fits : at + length x ≤ leng
   length-splice = ap length split ∙ simp (length-append, length-take, length-drop) (omega arith)
 
   take-splice : take (at + length x) (splice d at x) ≡ take at d ++ x
-  take-splice = ap (take (at + length x)) split
-      ∙ take-at (take at d ++ x) (drop (at + length x) d) (at + length x) head-long
+  take-splice =
+      ap (take (at + length x)) split ∙ take-at (take at d ++ x) (drop (at + length x) d) (at + length x) head-long
 
   drop-splice : (n : ℕ) → drop (at + length x + n) (splice d at x) ≡ drop (at + length x + n) d
   drop-splice n =

@@ -39,8 +39,8 @@ same-length c = search needs
 
 returns-4 : tie.Need-returns-4
 returns-4 c =
-    let start = c .before .before .before .before .before .before .before .before .before .before .before .before
-    .before in
+    let start =
+    c .before .before .before .before .before .before .before .before .before .before .before .before .before in
     too-long (start .args .image .now) (length (start .args .payload .now)) (length (start .args .replay .now))
     (start .args .text .now) (record {
       of-payload = c .before .before .before .before .before .before .before .before .if1 .left;
