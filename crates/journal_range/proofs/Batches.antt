@@ -171,8 +171,8 @@ walkAnswer count next NoEnd = Unreadable
 
 pub batch-walked : (s : List ℕ) → Headed s
     → batchAnswer (frontBatch s) ≡ walkAnswer (wordAt s 0) (long s) (entriesEnd s 8 (long s) (wordAt s 0))
-batch-walked s h = rw (batch-yes s h, walk-within s 8 (long s) (wordAt s 0) (omega (arith, h .blocks)) (h .room))
-    (go (listed s) refl)
+batch-walked s h =
+    rw (batch-yes s h, walk-within s 8 (long s) (wordAt s 0) (omega (arith, h .blocks)) (h .room)) (go (listed s) refl)
   where
     go : (o : Option (List JournalEntry × List ℕ)) → listed s ≡ o
         → batchAnswer (with-long (long s) o) ≡ walkAnswer (wordAt s 0) (long s) (placeBehind (long s) o)

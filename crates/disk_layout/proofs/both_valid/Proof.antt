@@ -12,8 +12,8 @@ valid-interval-requires-2 : tie.Need-valid-interval-requires-2
 valid-interval-requires-2 c κs = search needs
 
 returns : tie.Need-returns
-returns c = simp (told (c .before .before .valid-interval .ensures) (c .before .if1 .taken))
-    (c .valid-interval2 .ensures)
+returns c =
+    simp (told (c .before .before .valid-interval .ensures) (c .before .if1 .taken)) (c .valid-interval2 .ensures)
 
 returns-2 : tie.Need-returns-2
 returns-2 c = simp (c .if1 .left, told (c .before .valid-interval .ensures) (c .if1 .left))

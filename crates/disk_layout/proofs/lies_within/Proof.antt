@@ -24,11 +24,8 @@ add-within-2 : tie.Need-add-within-2
 add-within-2 c = omega (arith, c .before .before .before .before .pre .0, facts (c .before .before .before .before))
 
 add-within-3 : tie.Need-add-within-3
-add-within-3 c = omega (
-  arith,
-  c .before .before .before .before .before .pre .0,
-  facts (c .before .before .before .before .before),
-)
+add-within-3 c =
+    omega (arith, c .before .before .before .before .before .pre .0, facts (c .before .before .before .before .before))
 
 add-within-4 : tie.Need-add-within-4
 add-within-4 c = omega (
