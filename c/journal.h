@@ -43,7 +43,7 @@ extern "C" {
 #define JOURNAL_CHECKSUM_DIFFERS 12   /* with 256 times the lowest damaged block */
 #define JOURNAL_PAYLOAD_NOT_WHOLE 13  /* payload is whole blocks of JOURNAL_PAYLOAD bytes, at most N */
 #define JOURNAL_UNREADABLE 14         /* a range, or the replay's entry, does not read */
-#define JOURNAL_RING_UNREADABLE 15    /* the ring's pending bytes are not the counted entries */
+#define JOURNAL_RING_UNREADABLE 15    /* the ring's pending bytes are not the counted entries and clones */
 #define JOURNAL_PLACE_NOT_VALID 16    /* interval or location not valid */
 
 /* Sizes and limits. */
@@ -57,8 +57,8 @@ extern "C" {
 
 /* The record: so many 64-bit words that the caller keeps as they are between calls. Words behind these are neither
  * read nor changed. A record that is shorter, of another layout or otherwise damaged is refused with 2. */
-#define JOURNAL_WORDS 17
-#define JOURNAL_LAYOUT 1              /* what stands at JOURNAL_WORD_LAYOUT */
+#define JOURNAL_WORDS 18
+#define JOURNAL_LAYOUT 2              /* what stands at JOURNAL_WORD_LAYOUT */
 
 /* The words' places, for those who want to read them. */
 #define JOURNAL_WORD_LAYOUT 0
@@ -78,6 +78,7 @@ extern "C" {
 #define JOURNAL_WORD_FRONT_BLOCKS 14
 #define JOURNAL_WORD_BACK_PRESENT 15
 #define JOURNAL_WORD_BACK_BLOCKS 16
+#define JOURNAL_WORD_CLONES 17        /* clones that are pending, in both lists together */
 
 /* An empty journal of a region of n blocks and a ring of r bytes: 1; 9 where there are fewer words. */
 uint64_t journal_open(uint64_t *words, size_t words_len, uint64_t n, uint64_t r);
@@ -111,10 +112,12 @@ uint64_t journal_set_written(uint64_t *words, size_t words_len, uint64_t len);
 /* Lower the written blocks, when the oldest were dropped: 2, 10. */
 uint64_t journal_update_written(uint64_t *words, size_t words_len, uint64_t len);
 
-/* Queries: one word of answer, 0 or 1, or the written blocks: 2; 9 where there is no word. */
+/* Queries: one word of answer, 0 or 1, or the written blocks, or the clones that are pending in both lists together:
+ * 2; 9 where there is no word. */
 uint64_t journal_has_frozen(const uint64_t *words, size_t words_len, uint64_t *answer, size_t answer_len);
 uint64_t journal_has_in_memory(const uint64_t *words, size_t words_len, uint64_t *answer, size_t answer_len);
 uint64_t journal_get_written(const uint64_t *words, size_t words_len, uint64_t *answer, size_t answer_len);
+uint64_t journal_waiting_clones(const uint64_t *words, size_t words_len, uint64_t *answer, size_t answer_len);
 uint64_t journal_is_replay_empty(const uint64_t *words, size_t words_len, uint64_t *answer, size_t answer_len);
 uint64_t journal_has_front(const uint64_t *words, size_t words_len, uint64_t *answer, size_t answer_len);
 uint64_t journal_has_back(const uint64_t *words, size_t words_len, uint64_t *answer, size_t answer_len);

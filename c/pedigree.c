@@ -52,7 +52,7 @@ static void print_replay(void) {
     printf("then %" PRIu64 ": nothing is left\n", JOURNAL_NUMBER(code));
 }
 
-/* Two inserts go to the card, then a clone; a third insert is still in the ring. */
+/* Two inserts go to the card, then a clone; a third insert and another clone are still in the ring. */
 static void journal_pedigree(void) {
     must("open", journal_open(words, JOURNAL_WORDS, BLOCKS, RING));
     must("append", insert("fish/17", "dam 4, sire 9"));
@@ -63,10 +63,19 @@ static void journal_pedigree(void) {
     must("freeze", journal_freeze(words, JOURNAL_WORDS));
     to_card();
     must("append", insert("fish/19", "still in the ring"));
+    must("append", copy_line("fish/", "second trial/"));
+}
+
+/* What staff look at before they unplug a unit. */
+static void print_waiting(void) {
+    uint64_t clones;
+    must("waiting clones", journal_waiting_clones(words, JOURNAL_WORDS, &clones, 1));
+    printf("clones waiting: %" PRIu64 "\n", clones);
 }
 
 int main(void) {
     journal_pedigree();
+    print_waiting();
 
     /* The power goes: the record and the ring are lost, the card is not. A station keeps which blocks are live on its
      * card, stored after the image and a sync; here it is this number. */

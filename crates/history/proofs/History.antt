@@ -9,14 +9,15 @@ use Rattle.refusals.specs.Outcome.{gives}
 use Rattle.journalist.specs.declared.Journalist.{Journalist}
 use Rattle.journalist.specs.Calls.{openCall}
 use Rattle.journalist.specs.Record.{hangsTogether}
-use Rattle.journalist.specs.Package.{frozenRead, memoryRead}
+use Rattle.journalist.specs.Package.{frozenRead, memoryRead, ringReads}
 use Rattle.history.specs.Calls.{Call, append, freeze, packageFrozenJournal, packageInMemoryJournal}
 use Rattle.history.specs.Calls.{setWrittenJournalLen, updateWrittenJournalLen, setFront, setBack, parseJournals}
 use Rattle.history.specs.Calls.{replayJournalTop, replayJournalPop, query, toldOf, step}
 use Rattle.history.specs.History.{World, opened, following, run, History}
 use Rattle.history.proofs.Invariant.{Invariant, at-opening}
 use Rattle.history.proofs.Steps.{after-append, after-freeze, after-set, after-update}
-use Rattle.history.proofs.Packaging.{frozen-reads, memory-reads, after-package-frozen, after-package-in-memory}
+use Rattle.history.proofs.Packaging.{frozen-reads, memory-reads, ring-reads, after-package-frozen}
+use Rattle.history.proofs.Packaging.{after-package-in-memory}
 use Rattle.history.proofs.Others.{after-query, after-top, after-pop, after-front, after-back, after-load}
 
 after-step : (n : ℕ) (w : World) → Invariant n w → (c : Call)
@@ -55,6 +56,7 @@ pub record InOrder (w : World) : Type 0 where
   pub ring-long : length (w .ring) ≡ w .journalist .ring
   pub frozen-reads-as : frozenRead (w .journalist) (w .ring) ≡ some (w .lists .frozen)
   pub memory-reads-as : memoryRead (w .journalist) (w .ring) ≡ some (w .lists .memory)
+  pub ring-reads : ringReads (w .journalist) (w .ring) ≡ true
 
 pub in-order : (n r : ℕ) (j : Journalist) (ring : List ℕ) (cs : List Call) → openCall n r ≡ gives j → length ring ≡ r
     → InOrder (run (opened j ring) cs)
@@ -64,6 +66,7 @@ in-order n r j ring cs o long =
       ring-long = i .ring-long;
       frozen-reads-as = frozen-reads n w i;
       memory-reads-as = memory-reads n w i;
+      ring-reads = ring-reads n w i;
     }
   where
     w : World

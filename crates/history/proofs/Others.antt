@@ -14,7 +14,7 @@ use Rattle.journalist.proofs.RecoveryLaws.{front-taken, front-hangs, back-taken
 use Rattle.journalist.proofs.Replaying.{pop-exactly, popped-record-hangs}
 use Rattle.history.specs.Lists.{another}
 use Rattle.history.specs.Calls.{Query, frozenQuery, inMemoryQuery, writtenQuery, replayQuery, frontQuery}
-use Rattle.history.specs.Calls.{backQuery, leaves, keeping, asked}
+use Rattle.history.specs.Calls.{backQuery, clonesQuery, leaves, keeping, asked}
 use Rattle.history.specs.History.{World, following}
 use Rattle.history.proofs.Invariant.{Invariant, Recovered, after-other}
 
@@ -42,6 +42,7 @@ module _ (n : ℕ) (w : World) (i : Invariant n w) where
   after-query replayQuery = keeps (queryCall j _)
   after-query frontQuery = keeps (queryCall j _)
   after-query backQuery = keeps (queryCall j _)
+  after-query clonesQuery = keeps (queryCall j _)
 
   pub after-top : (replay : List ℕ)
       → Invariant n (following w another (leaves (keeping j (replayJournalTopCall j replay)) j (w .ring) none))

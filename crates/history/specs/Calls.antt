@@ -25,6 +25,7 @@ pub data Query : Type 0 where
   replayQuery : Query
   frontQuery : Query
   backQuery : Query
+  clonesQuery : Query
 
 -- a call with its arguments and each buffer that is lent to it, other than the ring
 pub data Call : Type 0 where
@@ -89,6 +90,7 @@ asked writtenQuery j = keeping j (queryCall j (j .written))
 asked replayQuery j = keeping j (queryCall j (isReplayEmpty j))
 asked frontQuery j = keeping j (queryCall j (present (j .front)))
 asked backQuery j = keeping j (queryCall j (present (j .back)))
+asked clonesQuery j = keeping j (queryCall j (j .clones))
 
 abbrev pub step : Call → Journalist → (ring : List ℕ) → Left
 step (append e) j ring = leaves (appendCall j ring e) j (ringAppended j ring e) none

@@ -1,12 +1,13 @@
 // Journal entries read from a byte sequence that is two lent slices joined, a ++ b: front and back, the two parts
 // of a ring, one slice and nothing.
 ghost use mathlib.Core.Path.{_≡_};
+ghost use mathlib.Core.Bool.{cond};
 ghost use mathlib.Core.List.{_++_};
 ghost use Prim.Native.Nat.{_+_, _-_, _≤_, _<_};
 ghost use lib.Dec.{leb};
 ghost use lib.ListN.{length, getD};
 ghost use Rattle.journal_entry.specs.Entry.{cloneMark, secondLimit};
-ghost use Rattle.journal_entry.specs.Places.{wordAt, kindOf, entryAt, entriesEnd};
+ghost use Rattle.journal_entry.specs.Places.{wordAt, kindOf, isCloneKind, entryAt, entriesEnd, entriesCounted};
 
 // The most first bytes of an entry, and the most second bytes of an insert and of a clone.
 pub const FIRST_LIMIT: usize = 512;
@@ -41,6 +42,12 @@ pub enum EntryRead {
 // The place behind the last of the entries read.
 pub enum Walk {
     End(usize),
+    Unreadable,
+}
+
+// The same, with the clones among them.
+pub enum Counted {
+    Behind { place: usize, clones: usize },
     Unreadable,
 }
 
@@ -177,30 +184,57 @@ pub fn entry_at(a: &[u8], b: &[u8], at: usize, end: usize) -> EntryRead
     })
 }
 
-// The place behind `count` entries of a ++ b, one behind the other, from `at` to `end` at most. Stops at the first
-// that does not read.
-pub fn entries_in(a: &[u8], b: &[u8], at: usize, end: usize, count: usize) -> Walk
-    ensures { λ r. ⌜ r ≡ entriesEnd (now (a .entry) ++ now (b .entry)) at end count ⌝ }
+// What an entry adds to the clones: one if it is a clone.
+pub fn clones_of(kind: Kind) -> usize
+    ensures { λ r. ⌜ r ≡ cond (isCloneKind kind) 1 0 ⌝ }
+{
+    match kind {
+        Kind::Insert => 0,
+        Kind::Clone => 1,
+    }
+}
+
+// The place behind `count` entries of a ++ b, one behind the other, from `at` to `end` at most, and the clones
+// among them. Stops at the first that does not read.
+pub fn counted_in(a: &[u8], b: &[u8], at: usize, end: usize, count: usize) -> Counted
+    ensures { λ r. ⌜ r ≡ entriesCounted (now (a .entry) ++ now (b .entry)) at end count ⌝ }
 {
     if end < at {
-        return Walk::Unreadable;
+        return Counted::Unreadable;
     }
     if a.len() + b.len() < end {
-        return Walk::Unreadable;
+        return Counted::Unreadable;
     }
     let mut here = at;
     let mut left = count;
+    let mut clones = 0;
     while 0 < left {
         let read = entry_at(a, b, here, end);
         match read {
             EntryRead::Unreadable => {
-                return Walk::Unreadable;
+                return Counted::Unreadable;
             }
             EntryRead::Read(place) => {
+                let kind = place.kind;
+                clones += clones_of(kind);
                 here = place.next;
             }
         }
         left -= 1;
     }
-    Walk::End(here)
+    Counted::Behind {
+        place: here,
+        clones: clones,
+    }
+}
+
+// The place alone.
+pub fn entries_in(a: &[u8], b: &[u8], at: usize, end: usize, count: usize) -> Walk
+    ensures { λ r. ⌜ r ≡ entriesEnd (now (a .entry) ++ now (b .entry)) at end count ⌝ }
+{
+    let counted = counted_in(a, b, at, end, count);
+    match counted {
+        Counted::Behind { place, clones: _ } => Walk::End(place),
+        Counted::Unreadable => Walk::Unreadable,
+    }
 }

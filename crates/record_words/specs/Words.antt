@@ -14,10 +14,10 @@ use Rattle.record_words.specs.declared.Decoded.the-variants.{Damaged, Of
 
 -- the version of the layout, and how many words it has
 abbrev pub layout : ℕ
-layout = 1
+layout = 2
 
 abbrev pub wordCount : ℕ
-wordCount = 17
+wordCount = 18
 
 -- a yes or a no as a word
 abbrev pub flagOf : Bool → ℕ
@@ -44,6 +44,7 @@ wordsOf j =
     ∷ sideBlocks (j .front)
     ∷ flagOf (present (j .back))
     ∷ sideBlocks (j .back)
+    ∷ j .clones
     ∷ []
 
 -- two words say a side: 1 with any number of blocks, or 0 with none
@@ -77,6 +78,7 @@ recordAt words =
       replay = record { place = at words 10; bytes = at words 11; entries = at words 12 };
       front = sideOf (at words 13) (at words 14);
       back = sideOf (at words 15) (at words 16);
+      clones = at words 17;
     }
 
 unfoldable pub decodeOf : List ℕ → Decoded

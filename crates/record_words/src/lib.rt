@@ -4,7 +4,7 @@
 //  2 R, ring bytes          8 written blocks        14 its blocks, 0 where there is none
 //  3 start                  9 frozen blocks         15 back: the same
 //  4 frozen entries        10 replay place          16 its blocks
-//  5 frozen bytes          11 replay bytes
+//  5 frozen bytes          11 replay bytes          17 clones in both lists
 // Words behind them are neither read nor changed.
 ghost use mathlib.Core.Path.{_≡_};
 ghost use mathlib.Core.List.{_++_};
@@ -23,9 +23,9 @@ use refusals::Refusal;
 use replay_cursor::Replay;
 
 // The version of the layout, and how many words it has.
-pub const LAYOUT: u64 = 1;
+pub const LAYOUT: u64 = 2;
 
-pub const WORDS: usize = 17;
+pub const WORDS: usize = 18;
 
 // What words say: no record, or a record whose counts may still not hang together.
 pub enum Decoded {
@@ -107,6 +107,7 @@ pub fn decode(words: &[u64]) -> Decoded
         },
         front: side(words[13], words[14]),
         back: side(words[15], words[16]),
+        clones: words[17] as usize,
     })
 }
 
@@ -133,6 +134,7 @@ fn store(words: &mut [u64], j: Journalist)
     words[14] = blocks_of(front);
     words[15] = flag_of(back);
     words[16] = blocks_of(back);
+    words[17] = j.clones as u64;
 }
 
 // A call's record to the words, and its number: 0, its refusal's, or 9 where there are too few. (Words that were

@@ -32,6 +32,7 @@ pub enum Call {
     HasFrozen,
     HasInMemory,
     GetWritten,
+    WaitingClones,
     IsReplayEmpty,
     HasFront,
     HasBack,
@@ -55,8 +56,8 @@ pub const NUMBERLESS: [Call; 11] = [
 ];
 
 /// Those that only ask.
-pub const QUERIES: [Call; 6] =
-    [HasFrozen, HasInMemory, GetWritten, IsReplayEmpty, HasFront, HasBack];
+pub const QUERIES: [Call; 7] =
+    [HasFrozen, HasInMemory, GetWritten, WaitingClones, IsReplayEmpty, HasFront, HasBack];
 
 /// Makes a call by the functions of a module.
 macro_rules! made {
@@ -81,6 +82,7 @@ macro_rules! made {
             HasFrozen => of::has_frozen(words, answer),
             HasInMemory => of::has_in_memory(words, answer),
             GetWritten => of::get_written(words, answer),
+            WaitingClones => of::waiting_clones(words, answer),
             IsReplayEmpty => of::is_replay_empty(words, answer),
             HasFront => of::has_front(words, answer),
             HasBack => of::has_back(words, answer),
@@ -118,7 +120,8 @@ impl Call {
             Load => &[2, 14, 9],
             Top => &[2, 8, 14, 9],
             Pop => &[2, 8, 14],
-            HasFrozen | HasInMemory | GetWritten | IsReplayEmpty | HasFront | HasBack => &[2, 9],
+            HasFrozen | HasInMemory | GetWritten | WaitingClones | IsReplayEmpty | HasFront
+            | HasBack => &[2, 9],
         }
     }
 

@@ -52,6 +52,7 @@ const PLACES: &[(&str, usize)] = &[
     ("WORD_FRONT_BLOCKS", word::FRONT_BLOCKS),
     ("WORD_BACK_PRESENT", word::BACK_PRESENT),
     ("WORD_BACK_BLOCKS", word::BACK_BLOCKS),
+    ("WORD_CLONES", word::CLONES),
 ];
 
 const SIZES: &[(&str, u64)] = &[

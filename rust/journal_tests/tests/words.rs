@@ -43,6 +43,7 @@ fn one_journal() {
     assert_eq!((words[4], words[5], words[6], words[7], words[9]), (1, 16, 0, 0, 1));
     assert_eq!(calls::append_clone(&mut words, &mut ring, b"from", b"to"), 0);
     assert_eq!(ring[16..30], *b"\x04\x10\0\0from\x02\0\0\0to");
+    assert_eq!((words[17], asked(calls::waiting_clones, &words)), (1, 1));
     assert_eq!(calls::append_clone(&mut words, &mut ring, &[0; 513], b"to"), 3);
     assert_eq!(calls::set_written(&mut words, 0), 7);
     assert_eq!((asked(calls::has_frozen, &words), asked(calls::has_in_memory, &words)), (1, 1));
@@ -52,7 +53,11 @@ fn one_journal() {
     assert_eq!(calls::package_frozen(&mut words, &ring, &mut out[..4095]), 9);
     assert_eq!(calls::package_frozen(&mut words, &ring, &mut out[..4096]), 0);
     assert_eq!((words[3], words[4], words[5], words[8], words[9]), (16, 0, 0, 1, 0));
+    words[17] = 0;
+    assert_eq!(calls::package_in_memory(&mut words, &ring, &mut out[4096..]), 15);
+    words[17] = 1;
     assert_eq!(calls::package_in_memory(&mut words, &ring, &mut out[4096..]), 0);
+    assert_eq!((words[17], asked(calls::waiting_clones, &words)), (0, 0));
     assert_eq!(calls::package_frozen(&mut words, &ring, &mut out), 8);
     assert_eq!(asked(calls::get_written, &words), 2);
 
@@ -91,7 +96,16 @@ fn one_journal() {
 #[test]
 fn damaged_words() {
     let mut damaged = vec![empty()[..WORDS - 1].to_vec(), vec![]];
-    for (place, word) in [(0, 0), (0, LAYOUT + 1), (13, 2), (14, 1), (15, u64::MAX), (16, 1)] {
+    for (place, word) in [
+        (0, 0),
+        (0, LAYOUT - 1),
+        (0, LAYOUT + 1),
+        (13, 2),
+        (14, 1),
+        (15, u64::MAX),
+        (16, 1),
+        (17, 1),
+    ] {
         let mut words = empty();
         words[place] = word;
         damaged.push(words.to_vec());
@@ -115,6 +129,7 @@ fn damaged_words() {
             calls::has_frozen,
             calls::has_in_memory,
             calls::get_written,
+            calls::waiting_clones,
             calls::is_replay_empty,
             calls::has_front,
             calls::has_back,

@@ -19,6 +19,7 @@ fn records() {
     let mut damaged = Journal::from([7; WORDS]);
     assert_eq!(damaged.freeze(), Err(Refusal::CountsDisagree));
     assert_eq!(damaged.get_written(), Err(Refusal::CountsDisagree));
+    assert_eq!(damaged.waiting_clones(), Err(Refusal::CountsDisagree));
     assert_eq!(*damaged.words(), [7; WORDS]);
 }
 

@@ -4,7 +4,7 @@
 use journal_tests::call::{compared, Call, Call::*};
 use journal_tests::memory::{Lent, Memory};
 use journal_tests::model::block::{BLOCK, HEAD, PAYLOAD};
-use journal_tests::model::journalist::WORDS;
+use journal_tests::model::journalist::{LAYOUT, WORDS};
 use journal_tests::model::writing::{self, Entry};
 use journal_tests::model::{crc, entries};
 use journal_tests::random::Random;
@@ -69,16 +69,18 @@ struct Journal {
     ring: Vec<u8>,
 }
 
-/// The words of the frozen list, of the one in memory, and of the frozen blocks.
+/// The words of the frozen list, of the one in memory, of the frozen blocks and of the clones.
 const FROZEN: usize = 4;
 const MEMORY: usize = 6;
 const HELD: usize = 9;
+const CLONES: usize = 17;
 
 impl Journal {
     /// An empty one, whose pending bytes will start at a place. No length word has a byte of its ring.
     fn new(n: usize, r: usize, start: usize) -> Self {
         let mut words = vec![0; WORDS];
-        words[..4].copy_from_slice(&[1, n, r, start].map(|n| n as u64));
+        words[0] = LAYOUT;
+        words[1..4].copy_from_slice(&[n, r, start].map(|n| n as u64));
         Journal { words, ring: vec![0xA5; r] }
     }
 
@@ -96,6 +98,7 @@ impl Journal {
         journal.words[list] = entries.len() as u64;
         journal.words[list + 1] = forms.len() as u64;
         journal.words[HELD] = held as u64;
+        journal.words[CLONES] = entries::clones(entries);
         for (i, byte) in forms.into_iter().enumerate() {
             journal.ring[(start + i) % r] = byte;
         }
@@ -220,7 +223,7 @@ fn entries_at_their_limits() {
 
 /// A random list goes into a ring by appends; some of it is frozen, in parts. One more entry finds just
 /// enough room or a byte too little. What is frozen is packaged, and what is in memory; a ring of
-/// which a byte of a length word is damaged is refused.
+/// which a byte of a length word is damaged, or an entry's kind, is refused.
 #[test]
 fn lists_through_rings() {
     let mut tally = Tally::default();
@@ -246,11 +249,14 @@ fn lists_through_rings() {
 
         let (frozen, memory) = list.split_at(frozen);
         let held = journal.words[HELD] as usize;
-        let mut damaged = journal.clone();
         let place = (journal.words[3] as usize + 1) % journal.ring.len();
-        damaged.ring[place] = 0xFF;
+        let [mut longer, mut other_kind] = [journal.clone(), journal.clone()];
+        longer.ring[place] = 0xFF;
+        other_kind.ring[place] ^= 0x10;
         if !frozen.is_empty() {
-            assert_eq!(tally.package(&damaged, PackageFrozen, BLOCK * held, frozen), 15);
+            for damaged in [longer, other_kind] {
+                assert_eq!(tally.package(&damaged, PackageFrozen, BLOCK * held, frozen), 15);
+            }
             for room in rooms(held) {
                 let wanted = if room < BLOCK * held { 9 } else { 0 };
                 assert_eq!(tally.package(&journal, PackageFrozen, room, frozen), wanted);

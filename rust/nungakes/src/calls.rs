@@ -58,6 +58,7 @@ over_slices! {
     has_frozen = journal_has_frozen(words: &[u64], answer: &mut [u64]);
     has_in_memory = journal_has_in_memory(words: &[u64], answer: &mut [u64]);
     get_written = journal_get_written(words: &[u64], answer: &mut [u64]);
+    waiting_clones = journal_waiting_clones(words: &[u64], answer: &mut [u64]);
     is_replay_empty = journal_is_replay_empty(words: &[u64], answer: &mut [u64]);
     has_front = journal_has_front(words: &[u64], answer: &mut [u64]);
     has_back = journal_has_back(words: &[u64], answer: &mut [u64]);

@@ -185,6 +185,11 @@ impl Journal {
         Ok(self.query(calls::get_written)? as usize)
     }
 
+    /// The clones that are pending, in both lists together.
+    pub fn waiting_clones(&self) -> Result<usize, Refusal> {
+        Ok(self.query(calls::waiting_clones)? as usize)
+    }
+
     /// Whether no entry is left of the replay.
     pub fn is_replay_empty(&self) -> Result<bool, Refusal> {
         Ok(self.query(calls::is_replay_empty)? == 1)

@@ -89,6 +89,12 @@ extern "C" {
         answer: *mut u64,
         answer_len: usize,
     ) -> u64;
+    pub fn journal_waiting_clones(
+        words: *const u64,
+        words_len: usize,
+        answer: *mut u64,
+        answer_len: usize,
+    ) -> u64;
     pub fn journal_is_replay_empty(
         words: *const u64,
         words_len: usize,

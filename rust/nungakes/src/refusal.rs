@@ -92,7 +92,7 @@ impl fmt::Display for Refusal {
             ChecksumDiffers { block } => return write!(f, "the checksum of block {block} differs"),
             PayloadNotWhole => "a payload is whole blocks of 4,064 bytes, at most the region's",
             Unreadable => "the bytes do not read as entries",
-            RingUnreadable => "the ring's pending bytes are not the counted entries",
+            RingUnreadable => "the ring's pending bytes are not the counted entries and clones",
             PlaceNotValid => "the interval or location is not valid",
         };
         f.write_str(text)

@@ -1,9 +1,9 @@
 //! The record as words, and the numbers that a caller sizes its buffers by. The tests compare them with c/journal.h.
 
 /// The words of a record. Words behind them are neither read nor changed.
-pub const WORDS: usize = 17;
+pub const WORDS: usize = 18;
 /// What stands at [`word::LAYOUT`]: other layouts are refused with 2.
-pub const LAYOUT: u64 = 1;
+pub const LAYOUT: u64 = 2;
 /// Bytes of a block of an image: 32 of checksum, then the payload.
 pub const BLOCK: usize = 4096;
 /// Bytes of a block's payload.
@@ -45,4 +45,6 @@ pub mod word {
     pub const FRONT_BLOCKS: usize = 14;
     pub const BACK_PRESENT: usize = 15;
     pub const BACK_BLOCKS: usize = 16;
+    /// Clones that are pending, in both lists together.
+    pub const CLONES: usize = 17;
 }

@@ -15,7 +15,8 @@ fn to_card(journal: &mut Journal, ring: &[u8], card: &mut [u8]) -> Result<(), Re
     Ok(())
 }
 
-/// Two inserts go to the card, then a clone; a third insert is still in the ring. How many blocks are live.
+/// Two inserts go to the card, then a clone; a third insert and another clone are still in the ring. How many blocks
+/// are live.
 fn journal_pedigree(card: &mut [u8]) -> Result<usize, Refusal> {
     let mut ring = [0; RING];
     let mut journal = Journal::open(BLOCKS, RING)?;
@@ -27,6 +28,9 @@ fn journal_pedigree(card: &mut [u8]) -> Result<usize, Refusal> {
     journal.freeze()?;
     to_card(&mut journal, &ring, card)?;
     journal.append_insert(&mut ring, b"fish/19", b"still in the ring")?;
+    journal.append_clone(&mut ring, b"fish/", b"second trial/")?;
+    // what staff look at before they unplug a unit
+    println!("clones waiting: {}", journal.waiting_clones()?);
     journal.get_written()
 }
 

@@ -109,19 +109,22 @@ shared-slice-read-side-4 c = search needs
 side-requires-2 : tie.Need-side-requires-2
 side-requires-2 c κs = search needs
 
+shared-slice-read-t59 : tie.Need-shared-slice-read-t59
+shared-slice-read-t59 c = search needs
+
 returns-5 : tie.Need-returns-5
 unfolding decodeOf wordsRead recordAt
 returns-5 c =
     let t = c .before .before .before .before .before .before .before .before .before .before .before .before
-    .before .before .before .before .before .before in
+    .before .before .before .before .before .before .before in
     simp (
       le-leb _ _ (t .before .before .before .before .before .before .before .before .before .before .if1 .left),
       eq-eqb _ _ (t .before .before .before .before .before .before .before .before .if2 .left),
       passed (t .before .before .before .before .before .side-reads .ensures)
           (t .before .before .before .before .if3 .left),
       passed (t .before .side-reads2 .ensures) (t .if4 .left),
-      c .before .before .before .side .ensures,
-      c .side2 .ensures,
+      c .before .before .before .before .side .ensures,
+      c .before .side2 .ensures,
     )
 
 pub decode-spec : {M : Type 1} → statement M
@@ -157,4 +160,5 @@ decode-spec =
     shared-slice-read-side-3
     shared-slice-read-side-4
     side-requires-2
+    shared-slice-read-t59
     returns-5)

@@ -71,6 +71,9 @@ blocks-of-requires-2 c κs = search needs
 slice-write-words-17 : tie.Need-slice-write-words-17
 slice-write-words-17 c = simp length-set (omega arith)
 
+slice-write-words-18 : tie.Need-slice-write-words-18
+slice-write-words-18 c = simp length-set (omega arith)
+
 same-length : tie.Need-same-length
 same-length c = simp length-set
 
@@ -110,5 +113,6 @@ store-spec =
     slice-write-words-16
     blocks-of-requires-2
     slice-write-words-17
+    slice-write-words-18
     same-length
     returns)

@@ -38,6 +38,11 @@ pub fn list(mut s: &[u8], n: u64) -> Option<(Vec<Entry>, &[u8])> {
     Some((entries, s))
 }
 
+/// The clones among some entries.
+pub fn clones(list: &[Entry]) -> u64 {
+    list.iter().filter(|entry| entry.is_clone).count() as u64
+}
+
 /// The entries of payload blocks, batch by batch.
 pub fn range(mut s: &[u8]) -> Option<Vec<Entry>> {
     let mut entries = vec![];

@@ -1,13 +1,13 @@
 //! The record and its calls, as the document has them. The record is words in a lent slice; every call
 //! gives 0 or the number of its refusal, and a refusal changes nothing.
 use super::block::{BLOCK, PAYLOAD};
-use super::entries;
+use super::entries::{self, clones};
 use super::reading::{CLONED, FIRST, INSERTED};
 use super::writing::{self, Entry};
 
 /// The words of a record, and their layout, which is the first of them.
-pub const WORDS: usize = 17;
-pub const LAYOUT: u64 = 1;
+pub const WORDS: usize = 18;
+pub const LAYOUT: u64 = 2;
 
 const MOST_BLOCKS: u64 = 1_024;
 const LONGEST_RING: u64 = 8_388_608;
@@ -54,6 +54,8 @@ struct Record {
     /// The blocks of front and of back; nothing where the side is absent.
     front: Option<u64>,
     back: Option<u64>,
+    /// Those in both lists.
+    clones: u64,
 }
 
 /// A condition's name, and two numbers: it holds where the first is at most the second.
@@ -63,6 +65,7 @@ pub type Condition = (&'static str, u128, u128);
 pub fn conditions(words: &[u64]) -> Option<Vec<Condition>> {
     let record = Record::of(words)?;
     let Record { n, r, start, frozen, memory, written, held, replay, front, back, .. } = record;
+    let entries = u128::from(frozen.entries) + u128::from(memory.entries);
     let [n, r, start, written, held] = [n, r, start, written, held].map(u128::from);
     let [front, back] = [front, back].map(|side| u128::from(side.unwrap_or(0)));
     let payload = PAYLOAD as u128;
@@ -78,6 +81,7 @@ pub fn conditions(words: &[u64]) -> Option<Vec<Condition>> {
         ("frozen weight", frozen.weight(), payload * held),
         ("front", front, n),
         ("back", back, n),
+        ("clones", record.clones.into(), entries),
     ];
     all.extend(frozen.conditions(["frozen", "none frozen"]));
     all.extend(memory.conditions(["in memory", "none in memory"]));
@@ -108,6 +112,7 @@ impl Record {
             replay: List { entries: w[12], bytes: w[11] },
             front: side(w[13], w[14])?,
             back: side(w[15], w[16])?,
+            clones: w[17],
         })
     }
 
@@ -127,7 +132,8 @@ impl Record {
         words[4..8].copy_from_slice([self.frozen, self.memory].map(list).as_flattened());
         words[8..10].copy_from_slice(&[self.written, self.held]);
         words[10..13].copy_from_slice(&replay);
-        words[13..WORDS].copy_from_slice([self.front, self.back].map(side).as_flattened());
+        words[13..17].copy_from_slice([self.front, self.back].map(side).as_flattened());
+        words[17] = self.clones;
     }
 
     /// The entry at the replay's place, and its bytes.
@@ -205,6 +211,7 @@ fn append(words: &mut [u64], ring: &mut [u8], entry: Entry) -> u64 {
         }
         record.memory.entries += 1;
         record.memory.bytes += entry.weight() as u64;
+        record.clones += u64::from(entry.is_clone);
         Ok(())
     })
 }
@@ -219,25 +226,27 @@ pub fn freeze(words: &mut [u64]) -> u64 {
     })
 }
 
-/// The bytes of both lists, of each by itself, if they read as its entries.
-fn pending(record: &Record, ring: &[u8]) -> Result<[Vec<u8>; 2], u64> {
+/// The entries of both lists, if their bytes read as so many, with the recorded clones among them.
+fn pending(record: &Record, ring: &[u8]) -> Result<[Vec<Entry>; 2], u64> {
     let mut from_start = (0..).map(|i| ring[(record.start as usize + i) % ring.len()]);
     let mut lists = [record.frozen, record.memory].map(|List { entries, bytes }| {
         let bytes: Vec<u8> = from_start.by_ref().take(bytes as usize).collect();
-        let exactly = entries::list(&bytes, entries).is_some_and(|(_, rest)| rest.is_empty());
-        exactly.then_some(bytes)
+        entries::list(&bytes, entries).filter(|(_, rest)| rest.is_empty()).map(|(list, _)| list)
     });
     match lists.each_mut().map(Option::take) {
-        [Some(frozen), Some(memory)] => Ok([frozen, memory]),
+        [Some(frozen), Some(memory)] if clones(&frozen) + clones(&memory) == record.clones => {
+            Ok([frozen, memory])
+        }
         _ => Err(15),
     }
 }
 
 /// The image of a batch of these entries, to the start of `out`.
-fn batch(list: List, bytes: &[u8], blocks: u64, out: &mut [u8]) -> Result<(), u64> {
-    let [entries, blocks] = [list.entries, blocks].map(|n| n as usize);
-    let out = out.get_mut(..BLOCK * blocks).ok_or(9_u64)?;
-    out.copy_from_slice(&writing::image(&writing::payload(entries, blocks, bytes)));
+fn batch(list: &[Entry], blocks: u64, out: &mut [u8]) -> Result<(), u64> {
+    let out = out.get_mut(..BLOCK * blocks as usize).ok_or(9_u64)?;
+    let forms: Vec<u8> = list.iter().flat_map(Entry::wire_form).collect();
+    let payload = writing::payload(list.len(), blocks as usize, &forms);
+    out.copy_from_slice(&writing::image(&payload));
     Ok(())
 }
 
@@ -246,7 +255,7 @@ pub fn package_frozen(words: &mut [u64], ring: &[u8], out: &mut [u8]) -> u64 {
         require(ring.len() as u64 == record.r, 2)?;
         require(record.frozen.entries > 0, 8)?;
         let [frozen, _] = pending(record, ring)?;
-        batch(record.frozen, &frozen, record.held, out)?;
+        batch(&frozen, record.held, out)?;
         record.written += record.held;
         record.held = 0;
         record.start += record.frozen.bytes;
@@ -254,6 +263,7 @@ pub fn package_frozen(words: &mut [u64], ring: &[u8], out: &mut [u8]) -> u64 {
             record.start -= record.r;
         }
         record.frozen = List::default();
+        record.clones -= clones(&frozen);
         Ok(())
     })
 }
@@ -265,10 +275,11 @@ pub fn package_in_memory(words: &mut [u64], ring: &[u8], out: &mut [u8]) -> u64 
         require(record.memory.entries > 0, 8)?;
         let [_, memory] = pending(record, ring)?;
         let blocks = record.memory.blocks();
-        batch(record.memory, &memory, blocks, out)?;
+        batch(&memory, blocks, out)?;
         record.written += blocks;
         record.start = 0;
         record.memory = List::default();
+        record.clones -= clones(&memory);
         Ok(())
     })
 }
@@ -301,6 +312,10 @@ pub fn has_in_memory(words: &[u64], answer: &mut [u64]) -> u64 {
 
 pub fn get_written(words: &[u64], answer: &mut [u64]) -> u64 {
     answered(words, answer, |record| record.written)
+}
+
+pub fn waiting_clones(words: &[u64], answer: &mut [u64]) -> u64 {
+    answered(words, answer, |record| record.clones)
 }
 
 pub fn is_replay_empty(words: &[u64], answer: &mut [u64]) -> u64 {

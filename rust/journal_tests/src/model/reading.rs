@@ -73,29 +73,34 @@ impl Joined<'_> {
             return None;
         }
         let forms = start + 8;
-        let forms_end = self.after_entries(forms, end, entries as usize)?;
+        let (forms_end, _) = self.counted(forms, end, entries as usize)?;
         Some(Batch { entries, forms, forms_end, end })
     }
 
-    /// The place behind so many entries from `at` on, if they are that and end by `end`.
-    pub fn after_entries(&self, mut at: usize, end: usize, entries: usize) -> Option<usize> {
+    /// The place behind so many entries from `at` on, if they are that and end by `end`, and the
+    /// clones among them.
+    pub fn counted(&self, mut at: usize, end: usize, entries: usize) -> Option<(usize, usize)> {
+        let mut clones = 0;
         for _ in 0..entries {
-            at = self.after_entry(at, end)?;
+            let (behind, is_clone) = self.after_entry(at, end)?;
+            at = behind;
+            clones += usize::from(is_clone);
         }
-        Some(at)
+        Some((at, clones))
     }
 
-    /// The place behind the entry at `at`, if it is one and ends by `end`.
-    fn after_entry(&self, at: usize, end: usize) -> Option<usize> {
+    /// The place behind the entry at `at`, if it is one and ends by `end`, and whether it is a clone.
+    fn after_entry(&self, at: usize, end: usize) -> Option<(usize, bool)> {
         let word = self.word(at, end)?;
-        let (first, limit) = if word < CLONE { (word, INSERTED) } else { (word - CLONE, CLONED) };
+        let is_clone = word >= CLONE;
+        let (first, limit) = if is_clone { (word - CLONE, CLONED) } else { (word, INSERTED) };
         if first > FIRST {
             return None;
         }
         let at = at + 4 + first as usize;
         let second = self.word(at, end)?;
         let after = at + 4 + second as usize;
-        (second <= limit && after <= end).then_some(after)
+        (second <= limit && after <= end).then_some((after, is_clone))
     }
 
     /// The word at `at`, lowest byte first, if it ends by `end`.

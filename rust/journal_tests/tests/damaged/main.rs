@@ -40,7 +40,7 @@ impl Tally {
         let calls: usize = self.answers.values().flat_map(BTreeMap::values).sum();
         println!("{calls} calls: {:?}; {:?}", self.answers, self.edges);
         assert!(calls >= at_least, "{calls} calls");
-        assert_eq!(self.answers.len(), 20);
+        assert_eq!(self.answers.len(), 21);
         for call in changing().chain(QUERIES) {
             let mut row: BTreeSet<u64> = call.numbers().iter().copied().collect();
             row.insert(0);
@@ -89,6 +89,7 @@ fn near(words: &[u64], random: &mut Random) -> u64 {
         bytes / 8,
         n.wrapping_sub(held),
         n.wrapping_sub(written),
+        words[4].wrapping_add(words[6]),
         replay,
         1_024,
         8_388_608,
@@ -110,7 +111,7 @@ fn every_word() {
             if random.below(4) > 0 {
                 state.fit();
             }
-            for call in changing().chain([QUERIES[random.below(6)]]) {
+            for call in changing().chain([random.one_of(&QUERIES)]) {
                 tally.compare(call, &state.lent(call, random));
             }
         };
@@ -173,13 +174,19 @@ fn damage(state: &mut State, call: Call, random: &mut Random) {
         0 => words[random.below(WORDS)] = value,
         1 => words[random.below(WORDS)] = near,
         2 => {
-            let at = random.one_of(&[3, 4, 5, 6, 7, 9, 10, 11, 12]);
+            let at = random.one_of(&[3, 4, 5, 6, 7, 9, 10, 11, 12, 17]);
             words[at] = words[at].wrapping_add(random.one_of(&[1, 8, u64::MAX, u64::MAX - 7]));
         }
         3 => {
             // one of the lists, or of its entries, starts there
             let before = random.one_of(&[0, words[5], words[5].wrapping_add(words[7]) / 2]);
-            spoil(ring, words[3].wrapping_add(before) as usize % (1 << 32), random);
+            let place = words[3].wrapping_add(before) as usize % (1 << 32);
+            if random.below(3) == 0 && !ring.is_empty() {
+                let kind = (place + 1) % ring.len();
+                ring[kind] ^= 0x10;
+            } else {
+                spoil(ring, place, random);
+            }
         }
         4 => spoil(front, random.one_of(&[0, 4, 8, 12]), random),
         5 => spoil(back, random.one_of(&[0, 4, 8, 12]), random),

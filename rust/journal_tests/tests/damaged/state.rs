@@ -2,6 +2,7 @@
 use journal_tests::call::{Call, Call::*, NUMBERLESS, QUERIES};
 use journal_tests::memory::Lent;
 use journal_tests::model::block::{BLOCK, PAYLOAD};
+use journal_tests::model::entries::{self, clones};
 use journal_tests::model::journalist::{self, LAYOUT};
 use journal_tests::model::writing::{self, Entry};
 use journal_tests::random::Random;
@@ -89,6 +90,7 @@ impl State {
         let [front_words, back_words] = [side(front), side(back)];
 
         let counts = |list: &[Entry]| [list.len(), forms(list).len()];
+        let clones = clones(&frozen) + clones(&memory);
         let mut words: Vec<u64> = [
             &[LAYOUT as usize, n, r, start][..],
             &counts(&frozen),
@@ -96,6 +98,7 @@ impl State {
             &[written, held, place, forms_left.len(), left.len()],
             &front_words,
             &back_words,
+            &[clones as usize],
         ]
         .concat()
         .into_iter()
@@ -141,7 +144,7 @@ impl State {
             }
             1 => SetWritten(len(random)),
             2 => UpdateWritten(len(random)),
-            3..9 => QUERIES[random.below(6)],
+            3..9 => random.one_of(&QUERIES),
             k => NUMBERLESS[k - 9],
         }
     }
@@ -175,8 +178,7 @@ impl State {
                 [payload, vec![], buffer]
             }
             Load => {
-                let entries =
-                    journal_tests::model::entries::range(&[&self.front[..], &self.back].concat());
+                let entries = entries::range(&[&self.front[..], &self.back].concat());
                 let room = entries.map_or(PAYLOAD, |list| forms(&list).len());
                 [self.front.clone(), self.back.clone(), vec![0xA5; room]]
             }

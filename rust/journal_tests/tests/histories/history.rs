@@ -2,7 +2,8 @@
 //! leaves are checked.
 use crate::lists::{bytes, forms, weight, Fed, Lists};
 use journal_tests::model::block::{BLOCK, PAYLOAD};
-use journal_tests::model::entries;
+use journal_tests::model::entries::{self, clones};
+use journal_tests::model::journalist::LAYOUT;
 use journal_tests::model::writing::Entry;
 use journal_tests::random::Random;
 use nungakes::{strip, Journal, Kind, Refusal};
@@ -133,17 +134,18 @@ impl History {
         self.check();
     }
 
-    /// The ring is lent as it is, a byte longer, or with the first length of one pending entry changed.
-    /// `out` has some bytes more or less than the image.
+    /// The ring is lent as it is, a byte longer, or with the first length or the kind of one pending entry
+    /// changed. `out` has some bytes more or less than the image.
     pub fn package(&mut self, frozen: bool, ring: usize, more: isize, random: &mut Random) {
         let Lists { frozen: first, memory: second, held, .. } = &self.lists;
         let mut lent = self.ring.clone();
         let entries = first.len() + second.len();
-        let damaged = ring == 2 && entries > 0;
+        let damaged = [2, 3].contains(&ring) && entries > 0;
         if damaged {
             let before = first.iter().chain(second).take(random.below(entries));
             let place = before.map(Entry::weight).sum::<usize>() + self.start as usize;
-            lent[(place + 1) % self.r as usize] = 0xFF;
+            let kind = &mut lent[(place + 1) % self.r as usize];
+            *kind = if ring == 2 { 0xFF } else { *kind ^ 0x10 };
         } else if ring == 1 {
             lent.push(0);
         }
@@ -294,23 +296,26 @@ impl History {
         });
         let counts = [frozen, memory].map(|list| [list.len() as u64, bytes(list)]);
         let replay = [self.place, left, self.left.len()].map(|n| n as u64);
+        let waiting = clones(frozen) + clones(memory);
         let wanted = [
-            &[1, self.n, self.r, self.start],
+            &[LAYOUT, self.n, self.r, self.start],
             counts.as_flattened(),
             &[*written, *held],
             &replay,
             &front,
             &back,
+            &[waiting],
         ];
         assert_eq!(self.journal.words()[..], wanted.concat());
         assert!(*written <= self.n);
         assert_eq!(self.journal.has_frozen(), Ok(!frozen.is_empty()));
         assert_eq!(self.journal.has_in_memory(), Ok(!memory.is_empty()));
         assert_eq!(self.journal.get_written(), Ok(*written as usize));
+        assert_eq!(self.journal.waiting_clones(), Ok(waiting as usize));
         assert_eq!(self.journal.is_replay_empty(), Ok(self.left.is_empty()));
         assert_eq!(self.journal.has_front(), Ok(self.front.is_some()));
         assert_eq!(self.journal.has_back(), Ok(self.back.is_some()));
-        *self.seen.entry(("queries", 0)).or_default() += 6;
+        *self.seen.entry(("queries", 0)).or_default() += 7;
         if self.ring.len() <= LITTLE {
             self.check_ring();
         }

@@ -10,6 +10,7 @@ pub fn run(table: &mut Table) {
     examples(table);
     a_full_region(table);
     two_freezes(table);
+    waiting_clones(table);
 }
 
 /// What a call does to a record, where it is lent these bytes.
@@ -43,6 +44,11 @@ impl<'a> Session<'a> {
         let (code, ring) = self.call(call, [first, second], &self.ring.clone());
         self.ring = ring;
         code
+    }
+
+    fn waiting(&mut self) -> u64 {
+        let lent = Lent { words: self.words.clone(), answer: vec![7], ..Lent::default() };
+        self.table.accepted(&Case { call: WaitingClones, lent }).answer[0]
     }
 
     fn package(&mut self, call: Call, room: usize) -> u64 {
@@ -113,4 +119,39 @@ fn two_freezes(table: &mut Table) {
     assert_eq!(session.words[4..10], [2, 32, 0, 0, 0, 2]);
     assert_eq!([8_191, 8_192].map(|n| session.package(PackageFrozen, n)), [9, 0]);
     assert_eq!(session.words[4..10], [0, 0, 0, 0, 2, 0]);
+}
+
+/// The total over both lists: clones alone count, a packaging takes off those of its list, and any ring
+/// with another number of them is refused by both packagings.
+fn waiting_clones(table: &mut Table) {
+    let clone = Entry { is_clone: true, ..weighing(16) };
+    let mut session = Session::open(table, 4, 200);
+    assert_eq!(session.waiting(), 0);
+    let totals = [weighing(16), clone.clone(), clone.clone()].map(|entry| {
+        assert_eq!(session.append(&entry), 0);
+        session.waiting()
+    });
+    assert_eq!(totals, [0, 1, 2]);
+    assert_eq!(session.call(Freeze, [&[]; 2], &[]).0, 0);
+    assert_eq!(session.waiting(), 2);
+    assert_eq!([&clone, &weighing(16)].map(|entry| session.append(entry)), [0, 0]);
+    assert_eq!(session.append(&Entry { first: vec![0; 513], ..clone }), 3);
+    assert_eq!(session.waiting(), 3);
+
+    let right = session.ring.clone();
+    for entry in 0..5 {
+        session.ring[16 * entry + 1] ^= 0x10;
+        assert_eq!(session.package(PackageFrozen, BLOCK), 15);
+        session.ring.clone_from(&right);
+    }
+    assert_eq!(session.waiting(), 3);
+    assert_eq!(session.package(PackageFrozen, BLOCK), 0);
+    assert_eq!(session.waiting(), 1);
+    for entry in 3..5 {
+        session.ring[16 * entry + 1] ^= 0x10;
+        assert_eq!(session.package(PackageInMemory, BLOCK), 15);
+        session.ring.clone_from(&right);
+    }
+    assert_eq!(session.package(PackageInMemory, BLOCK), 0);
+    assert_eq!(session.waiting(), 0);
 }

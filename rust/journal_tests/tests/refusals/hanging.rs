@@ -49,7 +49,8 @@ impl Table {
 fn edges(table: &mut Table) {
     let small = |others| with(empty(2, 100), others);
     let large = |others| with(empty(2, 5_000), others);
-    let rows: [(Vec<u64>, &Others); 36] = [
+    let both = small(&[(4, 1), (5, 8), (6, 1), (7, 8), (9, 1), (17, 2)]);
+    let rows: [(Vec<u64>, &Others); 40] = [
         (empty(1, 0), &[(1, 0)]),
         (empty(1_024, 0), &[(1, 1_025)]),
         (empty(1, 8_388_608), &[(2, 8_388_609)]),
@@ -90,6 +91,11 @@ fn edges(table: &mut Table) {
         (small(&[(15, 1), (16, 2)]), &[(16, 3)]),
         (small(&[(15, 1), (16, 2)]), &[(15, 0)]),
         (small(&[(15, 1)]), &[(15, 2)]),
+        // as many clones as entries of both lists
+        (both.clone(), &[(17, 3)]),
+        (both.clone(), &[(4, 0), (5, 0)]),
+        (both, &[(6, 0), (7, 0)]),
+        (small(&[]), &[(17, 1)]),
     ];
     for (words, others) in rows {
         assert!(!table.all_refuse(&words), "{words:?}");
@@ -101,7 +107,7 @@ fn edges(table: &mut Table) {
 /// Numbers whose sums and products are small again in 64 bits, or which are small in 32.
 fn large_numbers(table: &mut Table) {
     const MAX: u64 = u64::MAX;
-    let rows: [&Others; 19] = [
+    let rows: [&Others; 22] = [
         &[(0, 0)],
         &[(0, (1 << 32) + 1)],
         &[(1, (1 << 32) + 2)],
@@ -121,6 +127,9 @@ fn large_numbers(table: &mut Table) {
         &[(13, 1), (14, 1 << 32)],
         &[(15, MAX)],
         &[(15, 1), (16, MAX)],
+        &[(17, 1 << 32)],
+        &[(17, MAX)],
+        &[(4, MAX), (5, 16), (6, 2), (7, 16), (9, 1), (17, 1)],
     ];
     for others in rows {
         assert!(table.all_refuse(&with(empty(2, 100), others)), "{others:?}");

@@ -46,6 +46,11 @@ fn written_past(case: &mut Case) {
     case.lent.words[8] = case.lent.words[1] + 1;
 }
 
+fn clones_past(case: &mut Case) {
+    let words = &mut case.lent.words;
+    words[17] = words[4] + words[6] + 1;
+}
+
 fn words_short(case: &mut Case) {
     case.lent.words.truncate(WORDS - 1);
 }
@@ -79,7 +84,12 @@ fn no_answer(case: &mut Case) {
 }
 
 /// What any call on a record is refused for.
-const DAMAGED: [Fault; 3] = [written_past, words_short, another_layout];
+const DAMAGED: [Fault; 4] = [written_past, clones_past, words_short, another_layout];
+
+/// The same, and what else its 2 is for.
+fn damaged_or(others: &[Fault]) -> Vec<Fault> {
+    [&DAMAGED, others].concat()
+}
 
 fn opening(table: &mut Table) {
     let base = |n, r| Case {
@@ -115,7 +125,6 @@ fn appending(table: &mut Table) {
         (words[2], words[3]) = (words[5] + words[7] + 10, 0);
         case.lent.written.truncate(words[2] as usize);
     };
-    let [a, b, c] = DAMAGED;
     for call in [AppendInsert, AppendClone] {
         let read = [b"ab".to_vec(), b"c".to_vec()];
         let lent = Lent { words: words.clone(), read, written: vec![9; 5_000], ..Lent::default() };
@@ -126,36 +135,44 @@ fn appending(table: &mut Table) {
                 (6, &[no_room_in_ring]),
                 (4, &[second_long]),
                 (3, &[|case| case.lent.read[0] = vec![0; 513]]),
-                (2, &[a, b, c, written_short, written_long]),
+                (2, &damaged_or(&[written_short, written_long])),
             ],
         );
     }
 }
 
 fn packaging(table: &mut Table) {
-    let entries = [16, 40, 24].map(weighing);
+    let mut entries = [16, 40, 24].map(weighing);
+    // an insert and a clone are frozen, a clone is in memory
+    (entries[1].is_clone, entries[2].is_clone) = (true, true);
     let mut ring = forms(&entries);
     ring.resize(200, 0xA5);
     ring.rotate_right(190);
-    let words = with(empty(3, 200), &[(3, 190), (4, 2), (5, 56), (6, 1), (7, 24), (9, 2)]);
+    let words = with(empty(3, 200), &[(3, 190), (4, 2), (5, 56), (6, 1), (7, 24), (9, 2), (17, 2)]);
     let frozen = Lent {
         words: words.clone(),
         read: [ring, vec![]],
         written: vec![7; 2 * BLOCK],
         ..Lent::default()
     };
-    let none: Fault = |case| match case.call {
-        PackageFrozen => case.lent.words[4..6].fill(0),
-        _ => case.lent.words[6..8].fill(0),
+    let none: Fault = |case| {
+        let list = if case.call == PackageFrozen { 4 } else { 6 };
+        let words = &mut case.lent.words;
+        words[list..list + 2].fill(0);
+        words[17] = words[17].min(words[4] + words[6]);
     };
-    // the first length of the first entry, that of the last, and another number of entries
-    let unreadable: [Fault; 3] = [
+    // the first length of the first entry, that of the last, another number of entries, the kind of the
+    // first and of the last, one clone less and one more
+    let unreadable: [Fault; 7] = [
         |case| case.lent.read[0][191] = 0x20,
         |case| case.lent.read[0][(190 + 56 + 1) % 200] = 0x20,
         |case| case.lent.words[6] += 1,
+        |case| case.lent.read[0][191] ^= 0x10,
+        |case| case.lent.read[0][(190 + 56 + 1) % 200] ^= 0x10,
+        |case| case.lent.words[17] -= 1,
+        |case| case.lent.words[17] += 1,
     ];
-    let [a, b, c] = DAMAGED;
-    let damaged = [a, b, c, read_short, read_long];
+    let damaged = damaged_or(&[read_short, read_long]);
     let short: [Fault; 2] = [written_short, nothing_written];
     let base = Case { call: PackageFrozen, lent: frozen.clone() };
     table.in_order(base, &[(15, &unreadable), (9, &short), (8, &[none]), (2, &damaged)]);
@@ -240,11 +257,10 @@ fn recovering(table: &mut Table) {
         |case| case.lent.read[0][4] = 3,
         |case| case.lent.read[0][9] = 0x20,
     ];
-    let [a, b, c] = DAMAGED;
     let back_short: Fault = |case| case.lent.read[1].truncate(PAYLOAD - 1);
     table.in_order(
         Case { call: Load, lent },
-        &[(14, &unreadable), (9, &[written_short]), (2, &[a, b, c, read_short, back_short])],
+        &[(14, &unreadable), (9, &[written_short]), (2, &damaged_or(&[read_short, back_short]))],
     );
 }
 
@@ -256,12 +272,11 @@ fn replaying(table: &mut Table) {
         answer: vec![7; 5],
         ..Lent::default()
     };
-    let [a, b, c] = DAMAGED;
     let replay_short: Fault = |case| {
         let end = case.lent.words[10] + case.lent.words[11];
         case.lent.read[0].truncate(end as usize - 1);
     };
-    let damaged = [a, b, c, replay_short, |case| case.lent.words[10] = u64::MAX];
+    let damaged = damaged_or(&[replay_short, |case| case.lent.words[10] = u64::MAX]);
     let none: Fault = |case| case.lent.words[11..13].fill(0);
     // lengths over the limit, and bytes that are left over the end
     let unreadable: [Fault; 3] = [

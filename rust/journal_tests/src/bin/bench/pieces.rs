@@ -3,7 +3,7 @@
 use crate::{filling, mixed, record, Case, Timed, Way, Words};
 use journal_tests::model::block::{BLOCK, HEAD, PAYLOAD};
 use journal_tests::model::writing::{self, Entry};
-use journal_tests::model::{crc, plain, reading};
+use journal_tests::model::{crc, entries, plain, reading};
 use journal_tests::random::Random;
 use nungakes::calls;
 use std::cell::{OnceCell, RefCell};
@@ -30,6 +30,7 @@ struct Made {
 /// What the calls read of a piece.
 struct Read {
     entries: usize,
+    clones: usize,
     /// The wire forms alone, and in a ring in which they wrap.
     forms: Vec<u8>,
     ring: Vec<u8>,
@@ -63,12 +64,13 @@ impl Read {
 
     fn frozen(&self) -> Words {
         let counts = [(3, self.start()), (4, self.entries), (5, self.forms.len())];
-        record(self.ring.len(), &[&counts[..], &[(9, self.blocks())]].concat())
+        let others = [(9, self.blocks()), (17, self.clones)];
+        record(self.ring.len(), &[&counts[..], &others].concat())
     }
 
     fn in_memory(&self) -> Words {
         let counts = [(3, self.start()), (6, self.entries), (7, self.forms.len())];
-        record(self.ring.len(), &counts)
+        record(self.ring.len(), &[&counts[..], &[(17, self.clones)]].concat())
     }
 
     fn both_sides(&self) -> Words {
@@ -104,12 +106,13 @@ impl Pieces {
         let mut totals = [0; 2];
         assert_eq!(reading::range(&payload, &[], &mut totals), 0);
         let [entries, bytes] = totals.map(|n| n as usize);
+        let clones = entries::clones(&entries::range(&payload).unwrap()) as usize;
         let forms = payload[8..8 + bytes].to_vec();
         let mut ring = [&forms[..], &[0xA5; 100]].concat();
         let start = ring.len() - bytes / 3;
         ring.rotate_right(start);
         let image = writing::image(&payload);
-        Read { entries, forms, ring, payload, image }
+        Read { entries, clones, forms, ring, payload, image }
     }
 
     /// A round of the work, done to one piece after the other.

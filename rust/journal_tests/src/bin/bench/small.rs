@@ -31,7 +31,7 @@ impl Small {
     }
 
     pub fn cases(&self) -> Vec<Case<'_>> {
-        let pending = [(3, 100), (4, 3), (5, 300), (6, 5), (7, 10_000), (8, 7), (9, 9)];
+        let pending = [(3, 100), (4, 3), (5, 300), (6, 5), (7, 10_000), (8, 7), (9, 9), (17, 4)];
         let pending = record(1 << 20, &pending);
         let empty = record(1 << 20, &[(8, 7)]);
         let case = |name: &str, before, rattle: Work, rust: Work| Case {
@@ -70,6 +70,12 @@ impl Small {
                 pending,
                 |w, a| calls::get_written(w, a),
                 |w, a| plain::get_written(w, a),
+            ),
+            case(
+                "waiting clones",
+                pending,
+                |w, a| calls::waiting_clones(w, a),
+                |w, a| plain::waiting_clones(w, a),
             ),
         ]
     }

@@ -1,5 +1,6 @@
 //! The calls that are measured: each exported function, at little and at very much.
 use journal_tests::model::block::{BLOCK, PAYLOAD};
+use journal_tests::model::entries;
 use journal_tests::model::writing::{self, Entry};
 use journal_tests::random::Random;
 use nungakes::{raw, LAYOUT, WORDS};
@@ -153,15 +154,16 @@ fn packagings(measure: &mut dyn FnMut(Row)) {
         let mut totals = [0; 2];
         assert_eq!(nungakes::calls::range(&payload, &[], &mut totals), 0);
         let [entries, bytes] = totals.map(|n| n as usize);
+        let clones = entries::clones(&entries::range(&payload).unwrap()) as usize;
         let mut ring = payload[8..8 + bytes].to_vec();
         ring.rotate_left(2);
-        (blocks, entries, ring)
+        (blocks, [entries, clones], ring)
     });
     let mut out = vec![0_u8; BLOCK * MOST];
     let out = filled(&mut out);
-    let call = |(n, entries, ring): &(usize, usize, Vec<u8>), list: usize| {
+    let call = |(n, [entries, clones], ring): &(usize, [usize; 2], Vec<u8>), list: usize| {
         let len = ring.len();
-        let counts = [(3, len - 2), (list, *entries), (list + 1, len)];
+        let counts = [(3, len - 2), (list, *entries), (list + 1, len), (17, *clones)];
         let held = if list == 4 { *n } else { 0 };
         let record = record(*n, len, &[&counts[..], &[(9, held)]].concat());
         Call { what: blocks(*n), record, others: [lent(ring), out].concat() }
@@ -217,7 +219,7 @@ fn records(measure: &mut dyn FnMut(Row)) {
     let replay = [(10, 8), (11, 8 * MILLION), (12, MILLION)];
     let sides = [(13, 1), (14, MOST), (15, 1), (16, MOST)];
     let others = [&[(3, 1), (8, MOST / 2), (9, MOST / 4)][..], &replay, &sides].concat();
-    let lists = [list(4), list(6)].concat();
+    let lists = [&list(4)[..], &list(6), &[(17, half / 8)]].concat();
     let full = record(MOST, LONGEST_RING, &[&others[..], &lists].concat());
     let without_lists = record(MOST, LONGEST_RING, &others);
     let call = |what: &str, record, others: &[u64]| Call {
@@ -248,6 +250,7 @@ fn records(measure: &mut dyn FnMut(Row)) {
     measure(row!(journal_has_frozen, both(&answer)));
     measure(row!(journal_has_in_memory, both(&answer)));
     measure(row!(journal_get_written, both(&answer)));
+    measure(row!(journal_waiting_clones, both(&answer)));
     measure(row!(journal_is_replay_empty, both(&answer)));
     measure(row!(journal_has_front, both(&answer)));
     measure(row!(journal_has_back, both(&answer)));

@@ -9,7 +9,8 @@ use super::block::{BLOCK, PAYLOAD};
 use super::reading::{Joined, CLONED, FIRST, INSERTED};
 use forms::Lengths;
 use record::{
-    in_range, Record, BACK, FRONT, FROZEN, HELD, LAYOUT, MEMORY, PLACE, START, WORDS, WRITTEN,
+    in_range, Record, BACK, CLONES, FRONT, FROZEN, HELD, LAYOUT, MEMORY, PLACE, START, WORDS,
+    WRITTEN,
 };
 
 fn require(condition: bool, number: u64) -> Result<(), u64> {
@@ -62,6 +63,7 @@ fn append(
     forms::put(ring, record.start + pending, is_clone, first, second);
     words[MEMORY] += 1;
     words[MEMORY + 1] += weight as u64;
+    words[CLONES] += u64::from(is_clone);
     Ok(())
 }
 
@@ -77,16 +79,20 @@ pub fn freeze(words: &mut [u64]) -> u64 {
     0
 }
 
-/// The bytes from start on, if those of both lists read as their entries.
-fn pending<'a>(record: &Record, ring: &'a [u8]) -> Result<Joined<'a>, u64> {
-    let Record { start, frozen, memory, .. } = *record;
+/// The bytes from start on, if those of both lists read as their entries and have the recorded clones,
+/// and the clones of each.
+fn pending<'a>(record: &Record, ring: &'a [u8]) -> Result<(Joined<'a>, [usize; 2]), u64> {
+    let Record { start, frozen, memory, clones, .. } = *record;
     let (back, front) = ring.split_at(start);
     let joined = Joined { front, back };
     let end = frozen.bytes + memory.bytes;
-    let read = joined.after_entries(0, frozen.bytes, frozen.entries) == Some(frozen.bytes)
-        && joined.after_entries(frozen.bytes, end, memory.entries) == Some(end);
-    require(read, 15)?;
-    Ok(joined)
+    let counted = |at, end, entries| {
+        joined.counted(at, end, entries).filter(|(behind, _)| *behind == end).ok_or(15_u64)
+    };
+    let (_, in_frozen) = counted(0, frozen.bytes, frozen.entries)?;
+    let (_, in_memory) = counted(frozen.bytes, end, memory.entries)?;
+    require(in_frozen + in_memory == clones, 15)?;
+    Ok((joined, [in_frozen, in_memory]))
 }
 
 #[inline(never)]
@@ -99,7 +105,7 @@ fn try_package_frozen(words: &mut [u64], ring: &[u8], out: &mut [u8]) -> Result<
     let Record { r, start, frozen, written, held, .. } = record;
     require(ring.len() == r, 2)?;
     require(frozen.entries > 0, 8)?;
-    let joined = pending(&record, ring)?;
+    let (joined, [clones, _]) = pending(&record, ring)?;
     let out = out.get_mut(..BLOCK * held).ok_or(9_u64)?;
     forms::image(frozen.entries, joined.parts(0, frozen.bytes), out);
     let behind = start + frozen.bytes;
@@ -107,6 +113,7 @@ fn try_package_frozen(words: &mut [u64], ring: &[u8], out: &mut [u8]) -> Result<
     words[FROZEN..FROZEN + 2].fill(0);
     words[WRITTEN] = (written + held) as u64;
     words[HELD] = 0;
+    words[CLONES] -= clones as u64;
     Ok(())
 }
 
@@ -121,12 +128,13 @@ fn try_package_in_memory(words: &mut [u64], ring: &[u8], out: &mut [u8]) -> Resu
     require(ring.len() == record.r, 2)?;
     require(record.frozen.entries == 0, 7)?;
     require(memory.entries > 0, 8)?;
-    let joined = pending(&record, ring)?;
+    let (joined, [_, clones]) = pending(&record, ring)?;
     let out = out.get_mut(..BLOCK * memory.blocks()).ok_or(9_u64)?;
     forms::image(memory.entries, joined.parts(0, memory.bytes), out);
     words[START] = 0;
     words[MEMORY..MEMORY + 2].fill(0);
     words[WRITTEN] = (record.written + memory.blocks()) as u64;
+    words[CLONES] -= clones as u64;
     Ok(())
 }
 
@@ -179,6 +187,11 @@ pub fn has_in_memory(words: &[u64], answer: &mut [u64]) -> u64 {
 #[inline(never)]
 pub fn get_written(words: &[u64], answer: &mut [u64]) -> u64 {
     answered(words, answer, |record| record.written as u64)
+}
+
+#[inline(never)]
+pub fn waiting_clones(words: &[u64], answer: &mut [u64]) -> u64 {
+    answered(words, answer, |record| record.clones as u64)
 }
 
 #[inline(never)]

@@ -10,6 +10,7 @@ pub const HELD: usize = 9;
 pub const PLACE: usize = 10;
 pub const FRONT: usize = 13;
 pub const BACK: usize = 15;
+pub const CLONES: usize = 17;
 
 pub use super::super::journalist::{LAYOUT, WORDS};
 
@@ -65,6 +66,8 @@ pub struct Record {
     /// The blocks of front and of back; nothing where the side is absent.
     pub front: Option<usize>,
     pub back: Option<usize>,
+    /// Those in both lists.
+    pub clones: usize,
 }
 
 pub fn in_range(n: usize, r: usize) -> bool {
@@ -99,6 +102,7 @@ impl Record {
             replay: List::of(w[PLACE + 2], w[PLACE + 1]),
             front: side(w[FRONT], w[FRONT + 1])?,
             back: side(w[BACK], w[BACK + 1])?,
+            clones: w[CLONES] as usize,
         })
     }
 
@@ -118,5 +122,6 @@ impl Record {
             && frozen.weight() <= PAYLOAD * held
             && self.front.unwrap_or(0) <= n
             && self.back.unwrap_or(0) <= n
+            && self.clones <= frozen.entries + memory.entries
     }
 }
