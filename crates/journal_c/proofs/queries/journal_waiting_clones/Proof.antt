@@ -21,8 +21,8 @@ enum-known-j c = search needs
 waiting-clones-requires : tie.Need-waiting-clones-requires
 waiting-clones-requires c κs = search needs
 
-answer-waiting-requires : tie.Need-answer-waiting-requires
-answer-waiting-requires c κs = search needs
+answer-count-requires : tie.Need-answer-count-requires
+answer-count-requires c κs = search needs
 
 returns : tie.Need-returns
 returns c =
@@ -44,7 +44,7 @@ returns-2 c =
     let start = decoded .before .before .before in
     found (start .args .words .now) _ (decoded .decode .ensures) numberWords _ (start .args .answer .now) _ _ _ _
     (arm .j .given .1) (called .waiting-clones .ensures)
-    (stored .answer-waiting .ensures)
+    (stored .answer-count .ensures)
 
 pub journal-waiting-clones-spec : {M : Type 1} → statement M
 journal-waiting-clones-spec =
@@ -55,7 +55,7 @@ journal-waiting-clones-spec =
     number-requires
     enum-known-j
     waiting-clones-requires
-    answer-waiting-requires
+    answer-count-requires
     returns
     same-length
     returns-2)
