@@ -6,7 +6,7 @@ use mathlib.Core.Path.{_≡_, sym, _∙_}
 use native.Mathlib.Omega.{arith}
 use borrow.Author.Needs.{needs}
 use denote.Ref.{now}
-use lib.ListN.{length, length-append}
+use lib.ListN.{length-append}
 use Rattle.journal_entry.specs.Places.{isCloneKind}
 use Rattle.journal_entry.proofs.Walks.{Walking, walk-back, walk-outside, walk-starts, walk-few, walk-more}
 use Rattle.journal_entry.proofs.Walks.{walk-stops, walk-ends}
