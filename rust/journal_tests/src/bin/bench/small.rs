@@ -66,6 +66,12 @@ impl Small {
                 |w, a| plain::has_frozen(w, a),
             ),
             case(
+                "has in memory",
+                pending,
+                |w, a| calls::has_in_memory(w, a),
+                |w, a| plain::has_in_memory(w, a),
+            ),
+            case(
                 "get written",
                 pending,
                 |w, a| calls::get_written(w, a),
@@ -77,6 +83,19 @@ impl Small {
                 |w, a| calls::waiting_clones(w, a),
                 |w, a| plain::waiting_clones(w, a),
             ),
+            case(
+                "replay empty",
+                pending,
+                |w, a| calls::is_replay_empty(w, a),
+                |w, a| plain::is_replay_empty(w, a),
+            ),
+            case(
+                "has front",
+                pending,
+                |w, a| calls::has_front(w, a),
+                |w, a| plain::has_front(w, a),
+            ),
+            case("has back", pending, |w, a| calls::has_back(w, a), |w, a| plain::has_back(w, a)),
         ]
     }
 }
