@@ -15,6 +15,7 @@
 //!     let mut journal = Journal::open(4, ring.len())?;
 //!     journal.append_insert(&mut ring, b"fish/17", b"dam 4, sire 9")?;
 //!     journal.append_clone(&mut ring, b"fish/", b"trial/")?;
+//!     assert_eq!(journal.waiting_clones()?, 1);
 //!
 //!     // what is pending, as blocks: from here on the card has to keep them
 //!     let mut card = [0; 4 * BLOCK];

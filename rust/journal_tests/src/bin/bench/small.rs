@@ -44,6 +44,11 @@ impl Small {
                 Way::new("rust", move || self.round(before, rust)),
             ],
         };
+        macro_rules! query {
+            ($name:literal, $of:ident) => {
+                case($name, pending, |w, a| calls::$of(w, a), |w, a| plain::$of(w, a))
+            };
+        }
         vec![
             case("open", empty, |w, _| calls::open(w, 9, 99), |w, _| plain::open(w, 9, 99)),
             case("freeze", pending, |w, _| calls::freeze(w), |w, _| plain::freeze(w)),
@@ -59,43 +64,13 @@ impl Small {
                 |w, _| calls::update_written(w, 5),
                 |w, _| plain::update_written(w, 5),
             ),
-            case(
-                "has frozen",
-                pending,
-                |w, a| calls::has_frozen(w, a),
-                |w, a| plain::has_frozen(w, a),
-            ),
-            case(
-                "has in memory",
-                pending,
-                |w, a| calls::has_in_memory(w, a),
-                |w, a| plain::has_in_memory(w, a),
-            ),
-            case(
-                "get written",
-                pending,
-                |w, a| calls::get_written(w, a),
-                |w, a| plain::get_written(w, a),
-            ),
-            case(
-                "waiting clones",
-                pending,
-                |w, a| calls::waiting_clones(w, a),
-                |w, a| plain::waiting_clones(w, a),
-            ),
-            case(
-                "replay empty",
-                pending,
-                |w, a| calls::is_replay_empty(w, a),
-                |w, a| plain::is_replay_empty(w, a),
-            ),
-            case(
-                "has front",
-                pending,
-                |w, a| calls::has_front(w, a),
-                |w, a| plain::has_front(w, a),
-            ),
-            case("has back", pending, |w, a| calls::has_back(w, a), |w, a| plain::has_back(w, a)),
+            query!("has frozen", has_frozen),
+            query!("has in memory", has_in_memory),
+            query!("get written", get_written),
+            query!("waiting clones", waiting_clones),
+            query!("replay empty", is_replay_empty),
+            query!("has front", has_front),
+            query!("has back", has_back),
         ]
     }
 }
