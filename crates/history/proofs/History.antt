@@ -1,21 +1,24 @@
 -- The history rule holds of every list of calls. Assumes nothing.
-use mathlib.Core.Path.{_≡_}
-use mathlib.Core.Bool.{true}
+use mathlib.Core.Path.{_≡_, sym, _∙_}
+use mathlib.Core.Bool.{true, false}
 use mathlib.Core.List.{List, [], _∷_}
 use mathlib.Core.Option.{some}
 use Prim.Native.Nat.{ℕ}
 use lib.ListN.{length, take}
-use Rattle.refusals.specs.Outcome.{gives}
+use Rattle.refusals.specs.Outcome.{gives, refuses}
+use Rattle.refusals.proofs.Tests.{impossible}
 use Rattle.journalist.specs.declared.Journalist.{Journalist}
-use Rattle.journalist.specs.Calls.{openCall}
+use Rattle.journalist.specs.Calls.{openCall, thawCall}
 use Rattle.journalist.specs.Record.{hangsTogether}
 use Rattle.journalist.specs.Package.{frozenRead, memoryRead, ringReads}
-use Rattle.history.specs.Calls.{Call, append, freeze, packageFrozenJournal, packageInMemoryJournal}
+use Rattle.journalist.proofs.CallLaws.{thaw-exactly}
+use Rattle.history.specs.Calls.{Call, append, freeze, thaw, packageFrozenJournal, packageInMemoryJournal}
 use Rattle.history.specs.Calls.{setWrittenJournalLen, updateWrittenJournalLen, setFront, setBack, parseJournals}
 use Rattle.history.specs.Calls.{replayJournalTop, replayJournalPop, query, toldOf, step}
 use Rattle.history.specs.History.{World, opened, following, run, History}
 use Rattle.history.proofs.Invariant.{Invariant, at-opening}
-use Rattle.history.proofs.Steps.{after-append, after-freeze, after-set, after-update}
+use Rattle.history.proofs.Steps.{after-append, after-set, after-update}
+use Rattle.history.proofs.Freezing.{after-freeze, after-thaw}
 use Rattle.history.proofs.Packaging.{frozen-reads, memory-reads, ring-reads, after-package-frozen}
 use Rattle.history.proofs.Packaging.{after-package-in-memory}
 use Rattle.history.proofs.Others.{after-query, after-top, after-pop, after-front, after-back, after-load}
@@ -24,6 +27,7 @@ after-step : (n : ℕ) (w : World) → Invariant n w → (c : Call)
     → Invariant n (following w (toldOf c) (step c (w .journalist) (w .ring)))
 after-step n w i (append e) = after-append n w i e
 after-step n w i freeze = after-freeze n w i
+after-step n w i thaw = after-thaw n w i
 after-step n w i (packageFrozenJournal out) = after-package-frozen n w i out
 after-step n w i (packageInMemoryJournal out) = after-package-in-memory n w i out
 after-step n w i (setWrittenJournalLen len) = after-set n w i len
@@ -74,3 +78,9 @@ in-order n r j ring cs o long =
 
     i : Invariant n w
     i = after-run n (opened j ring) cs (at-opening n r j ring o long)
+
+-- "The two weights join with one header of 8, so the region always suffices" (document 02, paper 2): in a history thaw
+-- gives its result or 17, never 2.
+pub thaw-never-2 : (w : World) → InOrder w → thawCall (w .journalist) ≡ refuses 2 → ⊥
+thaw-never-2 w o e =
+    let h : true ≡ false = sym (o .hangs) ∙ thaw-exactly (w .journalist) .refused-told 2 e in impossible (cc)

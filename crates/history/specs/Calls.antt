@@ -1,4 +1,4 @@
--- The calls of demand 3, and what each leaves: made of the definitions that the functions' promises cite, so that
+-- The calls of demand 3 and of document 02, and what each leaves: made of the definitions that the functions' promises cite, so that
 -- the history is one of the code. Assumes nothing.
 use mathlib.Core.Bool.{Bool, true, false}
 use mathlib.Core.List.{List}
@@ -8,15 +8,15 @@ use lib.ListN.{take}
 use Rattle.refusals.specs.Outcome.{Outcome, gives, refuses, refusesBlock, into}
 use Rattle.journal_entry.specs.Entry.{JournalEntry}
 use Rattle.journalist.specs.declared.Journalist.{Journalist}
-use Rattle.journalist.specs.Calls.{freezeCall, setWrittenJournalLenCall, updateWrittenJournalLenCall, queryCall}
-use Rattle.journalist.specs.Calls.{hasFrozenJournal, hasInMemoryJournal, isReplayEmpty, present}
+use Rattle.journalist.specs.Calls.{freezeCall, thawCall, setWrittenJournalLenCall, updateWrittenJournalLenCall}
+use Rattle.journalist.specs.Calls.{queryCall, hasFrozenJournal, hasInMemoryJournal, isReplayEmpty, present}
 use Rattle.journalist.specs.Append.{appendCall, ringAppended}
 use Rattle.journalist.specs.Package.{packageFrozenJournalCall, frozenPackaged, packageInMemoryJournalCall}
 use Rattle.journalist.specs.Package.{memoryPackaged}
 use Rattle.journalist.specs.Recovery.{setFrontCall, setBackCall, parseJournalsCall, replayJournalTopCall}
 use Rattle.journalist.specs.Recovery.{replayJournalPopCall}
-use Rattle.history.specs.Lists.{Told, appending, freezing, packagingFrozen, packagingInMemory, settingWritten}
-use Rattle.history.specs.Lists.{updatingWritten, another}
+use Rattle.history.specs.Lists.{Told, appending, freezing, thawing, packagingFrozen, packagingInMemory}
+use Rattle.history.specs.Lists.{settingWritten, updatingWritten, another}
 
 pub data Query : Type 0 where
   frozenQuery : Query
@@ -31,6 +31,7 @@ pub data Query : Type 0 where
 pub data Call : Type 0 where
   append : (e : JournalEntry) → Call
   freeze : Call
+  thaw : Call
   packageFrozenJournal : (out : List ℕ) → Call
   packageInMemoryJournal : (out : List ℕ) → Call
   setWrittenJournalLen : (len : ℕ) → Call
@@ -45,6 +46,7 @@ pub data Call : Type 0 where
 abbrev pub toldOf : Call → Told
 toldOf (append e) = appending e
 toldOf freeze = freezing
+toldOf thaw = thawing
 toldOf (packageFrozenJournal out) = packagingFrozen
 toldOf (packageInMemoryJournal out) = packagingInMemory
 toldOf (setWrittenJournalLen len) = settingWritten len
@@ -95,6 +97,7 @@ asked clonesQuery j = keeping j (queryCall j (j .clones))
 abbrev pub step : Call → Journalist → (ring : List ℕ) → Left
 step (append e) j ring = leaves (appendCall j ring e) j (ringAppended j ring e) none
 step freeze j ring = leaves (freezeCall j) j ring none
+step thaw j ring = leaves (thawCall j) j ring none
 step (packageFrozenJournal out) j ring =
     let o = packageFrozenJournalCall j ring out in
     leaves (recordOf o) j ring (imageIn o (frozenPackaged j ring out))

@@ -8,7 +8,7 @@ use Rattle.refusals.specs.declared.Refusal.the-variants.{SizeOutOfRange,
 use Rattle.refusals.specs.declared.Refusal.the-variants.{SecondTooLong, RegionFull, RingFull, EntriesPending}
 use Rattle.refusals.specs.declared.Refusal.the-variants.{NothingThere, OutputTooShort, LengthTooLarge}
 use Rattle.refusals.specs.declared.Refusal.the-variants.{ImageNotWhole, PayloadNotWhole, Unreadable}
-use Rattle.refusals.specs.declared.Refusal.the-variants.{RingUnreadable, PlaceNotValid}
+use Rattle.refusals.specs.declared.Refusal.the-variants.{RingUnreadable, PlaceNotValid, NoFreeze}
 use Rattle.refusals.specs.Refusals.{numberOf}
 
 -- the refusals at their numbers; places 0 and 12 are never looked at
@@ -17,7 +17,7 @@ rows =
     SizeOutOfRange ∷ SizeOutOfRange ∷ CountsDisagree ∷ FirstTooLong ∷ SecondTooLong ∷ RegionFull ∷ RingFull
     ∷ EntriesPending ∷ NothingThere
     ∷ OutputTooShort ∷ LengthTooLarge ∷ ImageNotWhole ∷ ImageNotWhole ∷ PayloadNotWhole ∷ Unreadable
-    ∷ RingUnreadable ∷ PlaceNotValid ∷ []
+    ∷ RingUnreadable ∷ PlaceNotValid ∷ NoFreeze ∷ []
 
 abbrev row : ℕ → Refusal
 row n = getD rows n SizeOutOfRange
@@ -38,6 +38,7 @@ row-of-number PayloadNotWhole = refl
 row-of-number Unreadable = refl
 row-of-number RingUnreadable = refl
 row-of-number PlaceNotValid = refl
+row-of-number NoFreeze = refl
 
 pub number-determines : (a b : Refusal) → numberOf a ≡ numberOf b → a ≡ b
 number-determines a b same = sym (row-of-number a) ∙ ap row same ∙ row-of-number b

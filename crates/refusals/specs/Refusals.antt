@@ -1,11 +1,12 @@
--- The number of each refusal: document 01, the table "When a call says no". Assumes nothing.
+-- The number of each refusal: document 01, the table "When a call says no"; from 17 on document 02, the papers'
+-- errors. Assumes nothing.
 use Prim.Native.Nat.{ℕ}
 use Rattle.refusals.specs.declared.Refusal.{Refusal}
 use Rattle.refusals.specs.declared.Refusal.the-variants.{SizeOutOfRange, CountsDisagree, FirstTooLong}
 use Rattle.refusals.specs.declared.Refusal.the-variants.{SecondTooLong, RegionFull, RingFull, EntriesPending}
 use Rattle.refusals.specs.declared.Refusal.the-variants.{NothingThere, OutputTooShort, LengthTooLarge}
 use Rattle.refusals.specs.declared.Refusal.the-variants.{ImageNotWhole, PayloadNotWhole, Unreadable}
-use Rattle.refusals.specs.declared.Refusal.the-variants.{RingUnreadable, PlaceNotValid}
+use Rattle.refusals.specs.declared.Refusal.the-variants.{RingUnreadable, PlaceNotValid, NoFreeze}
 
 abbrev pub numberOf : Refusal → ℕ
 numberOf SizeOutOfRange = 1
@@ -23,3 +24,4 @@ numberOf PayloadNotWhole = 13
 numberOf Unreadable = 14
 numberOf RingUnreadable = 15
 numberOf PlaceNotValid = 16
+numberOf NoFreeze = 17

@@ -1,4 +1,4 @@
-// Why a call says no: the rows of document 01's table "When a call says no", one case a row.
+// Why a call says no: the rows of document 01's table "When a call says no" and of document 02's papers, one case a row.
 // Row 12 (a checksum differs) has no case: it names a block, so the answers that can give it carry both.
 ghost use mathlib.Core.Path.{_≡_};
 ghost use Rattle.refusals.specs.Refusals.{numberOf};
@@ -34,6 +34,8 @@ pub enum Refusal {
     RingUnreadable,
     // 16: interval or location not valid
     PlaceNotValid,
+    // 17: no freeze is remembered
+    NoFreeze,
 }
 
 // The number in the table.
@@ -56,5 +58,6 @@ pub fn number(why: Refusal) -> u64
         Refusal::Unreadable => 14,
         Refusal::RingUnreadable => 15,
         Refusal::PlaceNotValid => 16,
+        Refusal::NoFreeze => 17,
     }
 }

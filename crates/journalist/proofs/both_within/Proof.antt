@@ -1,6 +1,6 @@
 -- `both_within` meets its contract: each return is a law on numbers.
 -- Assumes nothing.
-use Rattle.journalist.proofs.Facts.{both-over, both-room}
+use Rattle.journalist.proofs.Counts.{both-over, both-room}
 use Rattle.journalist.proofs.both_within.Statement.{statement}
 use Rattle.journalist.proofs.both_within.Tie as tie
 

@@ -2,7 +2,7 @@
 -- Assumes nothing.
 use mathlib.Core.Path.{_∙_}
 use borrow.Author.Needs.{needs}
-use Rattle.journalist.proofs.Facts.{list-over, list-within}
+use Rattle.journalist.proofs.Counts.{list-over, list-within}
 use Rattle.journalist.proofs.list_hangs.Statement.{statement}
 use Rattle.journalist.proofs.list_hangs.Tie as tie
 
