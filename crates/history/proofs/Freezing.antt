@@ -21,7 +21,8 @@ use Rattle.journalist.proofs.CallLaws.{thaw-taken}
 use Rattle.history.specs.Lists.{freezing, thawing, lastMoved}
 use Rattle.history.specs.Calls.{leaves}
 use Rattle.history.specs.History.{World, following, countsOf}
-use Rattle.history.proofs.Counts.{counts-joined, counts-less, weight-of, freeze-same, within-front, within-behind}
+use Rattle.history.proofs.Counts.{counts-joined, counts-less, weight-of, freeze-same, within-front}
+use Rattle.history.proofs.Counts.{within-behind}
 use Rattle.history.proofs.Invariant.{Invariant, after-call}
 use Rattle.history.proofs.Steps.{sum}
 

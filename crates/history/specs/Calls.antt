@@ -1,5 +1,5 @@
--- The calls of demand 3 and of document 02, and what each leaves: made of the definitions that the functions' promises cite, so that
--- the history is one of the code. Assumes nothing.
+-- The calls of demand 3 and of document 02, and what each leaves: made of the definitions that the functions'
+-- promises cite, so that the history is one of the code. Assumes nothing.
 use mathlib.Core.Bool.{Bool, true, false}
 use mathlib.Core.List.{List}
 use mathlib.Core.Option.{Option, none, some}

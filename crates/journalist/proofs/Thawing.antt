@@ -69,5 +69,5 @@ sixteen = JournalInsert (1 ∷ 2 ∷ 3 ∷ 4 ∷ []) (5 ∷ 6 ∷ 7 ∷ 8 ∷ []
 pub premise-needed : (hangsTogether crowded ≡ true) × (canAppend crowded sixteen ≡ true)
     × (ringTakes crowded sixteen ≡ true) × (hangsTogether (appendedRecord crowded sixteen) ≡ false)
 unfolding hangsTogether baseHangs lastHangs inRange startHangs regionHangs sideHangs countsHang listWeight canAppend
-  ringTakes appendedRecord
+    ringTakes appendedRecord
 premise-needed = (refl, refl, refl, refl)

@@ -4,11 +4,13 @@ use mathlib.Core.List.{List, _++_}
 use Prim.Native.Nat.{ℕ, _≤_, _<_}
 use lib.ListN.{length, drop}
 use borrow.Author.Tests.{le-leb, lt-leb}
+use Rattle.refusals.specs.declared.Refusal.{Refusal}
 use Rattle.refusals.specs.Outcome.{Outcome, gives, refuses, refusesBlock}
+use Rattle.refusals.specs.Refusals.{numberOf}
 use Rattle.journalist.specs.Answers.{recordOutcome}
 use Rattle.journalist.specs.declared.Journalist.{Journalist}
 use Rattle.journalist.specs.declared.Recorded.{Recorded}
-use Rattle.journalist.specs.declared.Recorded.the-variants.{Done}
+use Rattle.journalist.specs.declared.Recorded.the-variants.{Done, Refused}
 use Rattle.record_words.specs.declared.Decoded.{Decoded}
 use Rattle.record_words.specs.declared.Decoded.the-variants.{Damaged, Of}
 use Rattle.record_words.specs.Words.{wordCount, wordsOf, decodeOf}
@@ -29,7 +31,12 @@ fits words h (gives j) = simp (le-leb wordCount (length words) h)
 fits words h (refuses number) = refl
 fits words h (refusesBlock number block) = refl
 
--- a record that was given to fewer words, and to enough
+-- a refusal; a record that was given to fewer words, and to enough
+pub not-given : (words : List ℕ) (answer : Recorded) (why : Refusal) (code : ℕ) → answer ≡ Refused why
+    → code ≡ numberOf why
+    → Settled words (fittedTo words (recordOutcome answer)) code words
+not-given words answer why code told number = rw told (number, refl)
+
 pub no-room : (words : List ℕ) (answer : Recorded) (j : Journalist) (code : ℕ) → answer ≡ Done j
     → length words < wordCount → code ≡ 9
     → Settled words (fittedTo words (recordOutcome answer)) code words

@@ -14,10 +14,10 @@ use Rattle.record_words.specs.declared.Decoded.the-variants.{Damaged, Of
 
 -- the version of the layout, and how many words it has
 abbrev pub layout : ℕ
-layout = 2
+layout = 3
 
 abbrev pub wordCount : ℕ
-wordCount = 18
+wordCount = 21
 
 -- a yes or a no as a word
 abbrev pub flagOf : Bool → ℕ
@@ -45,6 +45,9 @@ wordsOf j =
     ∷ flagOf (present (j .back))
     ∷ sideBlocks (j .back)
     ∷ j .clones
+    ∷ j .last .entries
+    ∷ j .last .bytes
+    ∷ j .last .blocks
     ∷ []
 
 -- two words say a side: 1 with any number of blocks, or 0 with none
@@ -79,6 +82,7 @@ recordAt words =
       front = sideOf (at words 13) (at words 14);
       back = sideOf (at words 15) (at words 16);
       clones = at words 17;
+      last = record { entries = at words 18; bytes = at words 19; blocks = at words 20 };
     }
 
 unfoldable pub decodeOf : List ℕ → Decoded

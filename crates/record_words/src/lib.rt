@@ -5,6 +5,7 @@
 //  3 start                  9 frozen blocks         15 back: the same
 //  4 frozen entries        10 replay place          16 its blocks
 //  5 frozen bytes          11 replay bytes          17 clones in both lists
+// 18 entries, 19 bytes and 20 blocks of the last freeze
 // Words behind them are neither read nor changed.
 ghost use mathlib.Core.Path.{_≡_};
 ghost use mathlib.Core.List.{_++_};
@@ -16,6 +17,7 @@ ghost use Rattle.journalist.specs.Recovery.{sideBlocks};
 ghost use Rattle.record_words.specs.Words.{wordCount, flagOf, wordsOf, sideReads, sideOf, decodeOf};
 ghost use Rattle.record_words.specs.Calls.{codeOf, fittedTo, wordsAfter};
 use journalist::Journalist;
+use journalist::Last;
 use journalist::Pending;
 use journalist::Recorded;
 use journalist::Side;
@@ -23,9 +25,9 @@ use refusals::Refusal;
 use replay_cursor::Replay;
 
 // The version of the layout, and how many words it has.
-pub const LAYOUT: u64 = 2;
+pub const LAYOUT: u64 = 3;
 
-pub const WORDS: usize = 18;
+pub const WORDS: usize = 21;
 
 // What words say: no record, or a record whose counts may still not hang together.
 pub enum Decoded {
@@ -108,6 +110,11 @@ pub fn decode(words: &[u64]) -> Decoded
         front: side(words[13], words[14]),
         back: side(words[15], words[16]),
         clones: words[17] as usize,
+        last: Last {
+            entries: words[18] as usize,
+            bytes: words[19] as usize,
+            blocks: words[20] as usize,
+        },
     })
 }
 
@@ -135,6 +142,9 @@ fn store(words: &mut [u64], j: Journalist)
     words[15] = flag_of(back);
     words[16] = blocks_of(back);
     words[17] = j.clones as u64;
+    words[18] = j.last.entries as u64;
+    words[19] = j.last.bytes as u64;
+    words[20] = j.last.blocks as u64;
 }
 
 // A call's record to the words, and its number: 0, its refusal's, or 9 where there are too few. (Words that were

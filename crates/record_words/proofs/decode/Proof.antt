@@ -112,19 +112,29 @@ side-requires-2 c κs = search needs
 shared-slice-read-t59 : tie.Need-shared-slice-read-t59
 shared-slice-read-t59 c = search needs
 
+shared-slice-read-t62 : tie.Need-shared-slice-read-t62
+shared-slice-read-t62 c = search needs
+
+shared-slice-read-t65 : tie.Need-shared-slice-read-t65
+shared-slice-read-t65 c = search needs
+
+shared-slice-read-t68 : tie.Need-shared-slice-read-t68
+shared-slice-read-t68 c = search needs
+
 returns-5 : tie.Need-returns-5
 unfolding decodeOf wordsRead recordAt
 returns-5 c =
-    let t = c .before .before .before .before .before .before .before .before .before .before .before .before
-    .before .before .before .before .before .before .before in
+    let s2 = c .before .before .before .before in
+    let t = s2 .before .before .before .before .before .before .before .before .before .before .before .before
+    .before .before .before .before .before .before in
     simp (
       le-leb _ _ (t .before .before .before .before .before .before .before .before .before .before .if1 .left),
       eq-eqb _ _ (t .before .before .before .before .before .before .before .before .if2 .left),
       passed (t .before .before .before .before .before .side-reads .ensures)
           (t .before .before .before .before .if3 .left),
       passed (t .before .side-reads2 .ensures) (t .if4 .left),
-      c .before .before .before .before .side .ensures,
-      c .before .side2 .ensures,
+      s2 .before .before .before .side .ensures,
+      s2 .side2 .ensures,
     )
 
 pub decode-spec : {M : Type 1} → statement M
@@ -161,4 +171,7 @@ decode-spec =
     shared-slice-read-side-4
     side-requires-2
     shared-slice-read-t59
+    shared-slice-read-t62
+    shared-slice-read-t65
+    shared-slice-read-t68
     returns-5)

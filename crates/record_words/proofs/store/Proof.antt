@@ -74,6 +74,15 @@ slice-write-words-17 c = simp length-set (omega arith)
 slice-write-words-18 : tie.Need-slice-write-words-18
 slice-write-words-18 c = simp length-set (omega arith)
 
+slice-write-words-19 : tie.Need-slice-write-words-19
+slice-write-words-19 c = simp length-set (omega arith)
+
+slice-write-words-20 : tie.Need-slice-write-words-20
+slice-write-words-20 c = simp length-set (omega arith)
+
+slice-write-words-21 : tie.Need-slice-write-words-21
+slice-write-words-21 c = simp length-set (omega arith)
+
 same-length : tie.Need-same-length
 same-length c = simp length-set
 
@@ -114,5 +123,8 @@ store-spec =
     blocks-of-requires-2
     slice-write-words-17
     slice-write-words-18
+    slice-write-words-19
+    slice-write-words-20
+    slice-write-words-21
     same-length
     returns)

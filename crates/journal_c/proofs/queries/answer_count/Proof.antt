@@ -1,6 +1,6 @@
 -- `journal_c::queries::answer_count` meets its contract: a number's word.
 -- Assumes nothing.
-use mathlib.Core.Path.{sym}
+use mathlib.Core.Path.{refl, sym}
 use Rattle.refusals.specs.Outcome.{into}
 use Rattle.journalist.specs.Answers.{countOutcome}
 use Rattle.journalist.specs.declared.Count.{Count}
@@ -23,7 +23,11 @@ answer-one-requires : tie.Need-answer-one-requires
 answer-one-requires c κs = search needs
 
 returns : tie.Need-returns
-returns c = search needs
+returns c =
+    let a = c .before .before .before .before .before .args in
+    also (λ (t : Count). into numberWords (countOutcome t)) _ (a .count) (a .answer .now) _ _
+    (sym (c .before .before .count .given .1))
+    (c .number .ensures, refl)
 
 same-length : tie.Need-same-length
 same-length c = search needs

@@ -14,7 +14,8 @@ use Rattle.journalist.specs.Record.{inRange, baseHangs}
 use Rattle.journalist.specs.Recovery.{sideBlocks}
 use Rattle.journalist.specs.declared.Journalist.{Journalist}
 use Rattle.journalist.proofs.Counts.{range-facts, start-fact, start-true, side-most, side-hangs, tests}
-use Rattle.journalist.proofs.Counts.{tests-all, tests-fail, test-fails, blocks-fit, ListsHang, lists-fit, lists-told}
+use Rattle.journalist.proofs.Counts.{tests-all, tests-fail, test-fails, blocks-fit, ListsHang, lists-fit}
+use Rattle.journalist.proofs.Counts.{lists-told}
 use Rattle.journalist.proofs.Journalist.base_hangs.Statement.{statement}
 use Rattle.journalist.proofs.Journalist.base_hangs.Tie as tie
 

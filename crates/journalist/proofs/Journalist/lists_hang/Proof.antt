@@ -29,7 +29,8 @@ list-hangs-requires-2 c κs = omega (arith, c .before .before .before .before .b
 
 returns-2 : tie.Need-returns-2
 returns-2 c =
-    c .list-hangs2 .ensures ∙ sym (rw (passed (c .before .before .before .list-hangs .ensures) (c .before .before .if1 .left)))
+    c .list-hangs2 .ensures ∙ sym (rw
+    (passed (c .before .before .before .list-hangs .ensures) (c .before .before .if1 .left)))
 
 pub lists-hang-spec : {M : Type 1} → statement M
 lists-hang-spec =
