@@ -22,7 +22,7 @@
 extern "C" {
 #endif
 
-#define JOURNAL_LIBRARY_VERSION "0.2.0"
+#define JOURNAL_LIBRARY_VERSION "0.3.0"
 
 /* A code's number; and of JOURNAL_CHECKSUM_DIFFERS the lowest block that differs. */
 #define JOURNAL_NUMBER(code) ((code) & 255)
@@ -45,6 +45,7 @@ extern "C" {
 #define JOURNAL_UNREADABLE 14         /* a range, or the replay's entry, does not read */
 #define JOURNAL_RING_UNREADABLE 15    /* the ring's pending bytes are not the counted entries and clones */
 #define JOURNAL_PLACE_NOT_VALID 16    /* interval or location not valid */
+#define JOURNAL_NO_FREEZE 17          /* no freeze is remembered */
 
 /* Sizes and limits. */
 #define JOURNAL_BLOCK 4096            /* bytes of a block of an image: 32 of checksum, then */
@@ -57,8 +58,8 @@ extern "C" {
 
 /* The record: so many 64-bit words that the caller keeps as they are between calls. Words behind these are neither
  * read nor changed. A record that is shorter, of another layout or otherwise damaged is refused with 2. */
-#define JOURNAL_WORDS 18
-#define JOURNAL_LAYOUT 2              /* what stands at JOURNAL_WORD_LAYOUT */
+#define JOURNAL_WORDS 21
+#define JOURNAL_LAYOUT 3              /* what stands at JOURNAL_WORD_LAYOUT */
 
 /* The words' places, for those who want to read them. */
 #define JOURNAL_WORD_LAYOUT 0
@@ -79,6 +80,9 @@ extern "C" {
 #define JOURNAL_WORD_BACK_PRESENT 15
 #define JOURNAL_WORD_BACK_BLOCKS 16
 #define JOURNAL_WORD_CLONES 17        /* clones that are pending, in both lists together */
+#define JOURNAL_WORD_LAST_ENTRIES 18  /* what the last freeze that moved any entries moved, for a thaw */
+#define JOURNAL_WORD_LAST_BYTES 19
+#define JOURNAL_WORD_LAST_BLOCKS 20   /* blocks that it added; all three are 0 where no freeze is remembered */
 
 /* An empty journal of a region of n blocks and a ring of r bytes: 1; 9 where there are fewer words. */
 uint64_t journal_open(uint64_t *words, size_t words_len, uint64_t n, uint64_t r);
@@ -90,8 +94,13 @@ uint64_t journal_append_insert(uint64_t *words, size_t words_len, uint8_t *ring,
 uint64_t journal_append_clone(uint64_t *words, size_t words_len, uint8_t *ring, size_t ring_len,
     const uint8_t *from, size_t from_len, const uint8_t *to, size_t to_len);
 
-/* Move the in-memory list behind the frozen one: 2. */
+/* Move the in-memory list behind the frozen one: 2. Where that moves any entries, it is remembered for a thaw. */
 uint64_t journal_freeze(uint64_t *words, size_t words_len);
+
+/* Take back the last freeze that moved any entries: 2, 17. They go in front of the in-memory list, so that appends made
+ * since stay behind them, and the freeze's blocks are taken off. Packaging the frozen list forgets that freeze, and so
+ * does a thaw. No ring is lent, since no byte of it moves. */
+uint64_t journal_thaw(uint64_t *words, size_t words_len);
 
 /* Write the frozen list's image to the start of `out`, and empty the list: 2, 8, 15, 9. The ring is exactly r bytes,
  * `out` at least JOURNAL_BLOCK for each block: those at JOURNAL_WORD_FROZEN_BLOCKS before the call, by which

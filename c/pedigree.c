@@ -32,6 +32,12 @@ static uint64_t copy_line(const char *from, const char *to) {
         (const uint8_t *)to, strlen(to));
 }
 
+/* A technician closes a session and finds one spawning missing. */
+static void take_back(void) {
+    must("thaw", journal_thaw(words, JOURNAL_WORDS));
+    printf("taken back: %" PRIu64 " entries in memory\n", words[JOURNAL_WORD_MEMORY_ENTRIES]);
+}
+
 /* Hands out the frozen list's blocks behind those on the card. */
 static void to_card(void) {
     uint64_t written = words[JOURNAL_WORD_WRITTEN];
@@ -52,17 +58,20 @@ static void print_replay(void) {
     printf("then %" PRIu64 ": nothing is left\n", JOURNAL_NUMBER(code));
 }
 
-/* Two inserts go to the card, then a clone; a third insert and another clone are still in the ring. */
+/* Three inserts go to the card, then a clone; a fourth insert and another clone are still in the ring. */
 static void journal_pedigree(void) {
     must("open", journal_open(words, JOURNAL_WORDS, BLOCKS, RING));
     must("append", insert("fish/17", "dam 4, sire 9"));
     must("append", insert("fish/18", "dam 4, sire 9"));
     must("freeze", journal_freeze(words, JOURNAL_WORDS));
+    take_back();
+    must("append", insert("fish/19", "dam 4, sire 9"));
+    must("freeze", journal_freeze(words, JOURNAL_WORDS));
     to_card();
     must("append", copy_line("fish/", "trial/"));
     must("freeze", journal_freeze(words, JOURNAL_WORDS));
     to_card();
-    must("append", insert("fish/19", "still in the ring"));
+    must("append", insert("fish/20", "still in the ring"));
     must("append", copy_line("fish/", "second trial/"));
 }
 

@@ -14,6 +14,7 @@ pub enum Call {
     AppendInsert,
     AppendClone,
     Freeze,
+    Thaw,
     /// The ring is read, and the image is written.
     PackageFrozen,
     PackageInMemory,
@@ -41,10 +42,11 @@ pub enum Call {
 use Call::*;
 
 /// Those that take no number and do more than ask.
-pub const NUMBERLESS: [Call; 11] = [
+pub const NUMBERLESS: [Call; 12] = [
     AppendInsert,
     AppendClone,
     Freeze,
+    Thaw,
     PackageFrozen,
     PackageInMemory,
     Strip,
@@ -69,6 +71,7 @@ macro_rules! made {
             AppendInsert => of::append_insert(words, written, a, b),
             AppendClone => of::append_clone(words, written, a, b),
             Freeze => of::freeze(words),
+            Thaw => of::thaw(words),
             PackageFrozen => of::package_frozen(words, a, written),
             PackageInMemory => of::package_in_memory(words, a, written),
             SetWritten(len) => of::set_written(words, len),
@@ -111,6 +114,7 @@ impl Call {
             Open { .. } => &[1, 9],
             AppendInsert | AppendClone => &[2, 3, 4, 5, 6],
             Freeze => &[2],
+            Thaw => &[2, 17],
             PackageFrozen => &[2, 8, 15, 9],
             PackageInMemory => &[2, 7, 8, 15, 9],
             SetWritten(_) => &[2, 7, 10],

@@ -32,6 +32,7 @@ const REFUSALS: &[(&str, Refusal)] = &[
     ("UNREADABLE", Refusal::Unreadable),
     ("RING_UNREADABLE", Refusal::RingUnreadable),
     ("PLACE_NOT_VALID", Refusal::PlaceNotValid),
+    ("NO_FREEZE", Refusal::NoFreeze),
 ];
 
 const PLACES: &[(&str, usize)] = &[
@@ -53,6 +54,9 @@ const PLACES: &[(&str, usize)] = &[
     ("WORD_BACK_PRESENT", word::BACK_PRESENT),
     ("WORD_BACK_BLOCKS", word::BACK_BLOCKS),
     ("WORD_CLONES", word::CLONES),
+    ("WORD_LAST_ENTRIES", word::LAST_ENTRIES),
+    ("WORD_LAST_BYTES", word::LAST_BYTES),
+    ("WORD_LAST_BLOCKS", word::LAST_BLOCKS),
 ];
 
 const SIZES: &[(&str, u64)] = &[
@@ -106,7 +110,7 @@ fn codes() {
     let named = Refusal::of_code(12 + 256 * 300);
     assert_eq!(named, Some(Refusal::ChecksumDiffers { block: 300 }));
     assert_eq!(named.unwrap().to_string(), "the checksum of block 300 differs");
-    for code in [0, 17, 255, 256, 1 + 256, 11 + 256, 13 + 256, u64::MAX] {
+    for code in [0, 18, 255, 256, 1 + 256, 11 + 256, 13 + 256, u64::MAX] {
         assert_eq!(Refusal::of_code(code), None, "{code}");
     }
 }

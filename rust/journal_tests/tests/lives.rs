@@ -70,6 +70,7 @@ struct Seen {
     crossed: usize,
     dropped: usize,
     full: usize,
+    thawed: usize,
     not_live_yet: usize,
 }
 
@@ -103,50 +104,90 @@ fn recover(card: &Card, r: usize, seen: &mut Seen) -> Journal {
     journal
 }
 
+/// What a power cut takes: the record, the ring, what is pending in it, and how many of the frozen entries the last
+/// freeze moved, if it can be taken back.
+struct Unit {
+    journal: Journal,
+    ring: Vec<u8>,
+    frozen: Vec<Entry>,
+    memory: Vec<Entry>,
+    last: usize,
+}
+
+impl Unit {
+    fn new(journal: Journal, ring: Vec<u8>) -> Self {
+        Unit { journal, ring, frozen: vec![], memory: vec![], last: 0 }
+    }
+
+    /// Whether there is room.
+    fn append(&mut self, entry: Entry) -> bool {
+        let Entry { is_clone, first, second } = &entry;
+        let append = if *is_clone { Journal::append_clone } else { Journal::append_insert };
+        match append(&mut self.journal, &mut self.ring, first, second) {
+            Ok(()) => self.memory.push(entry),
+            Err(Refusal::RegionFull | Refusal::RingFull) => return false,
+            Err(why) => panic!("{why}"),
+        }
+        true
+    }
+
+    fn freeze(&mut self) {
+        self.journal.freeze().unwrap();
+        if !self.memory.is_empty() {
+            self.last = self.memory.len();
+        }
+        self.frozen.append(&mut self.memory);
+    }
+
+    /// Whether there was a freeze to take back.
+    fn thaw(&mut self) -> bool {
+        let wanted = if self.last > 0 { Ok(()) } else { Err(Refusal::NoFreeze) };
+        assert_eq!(self.journal.thaw(), wanted);
+        let still = self.frozen.len() - take(&mut self.last);
+        self.memory.splice(..0, self.frozen.drain(still..));
+        wanted.is_ok()
+    }
+
+    /// What is frozen or, where nothing is, in memory, with its image in `out`.
+    fn package(&mut self, out: &mut [u8]) -> Option<Batch> {
+        let (package, list): (fn(&mut _, &_, &mut _) -> _, _) = if self.frozen.is_empty() {
+            (Journal::package_in_memory, &mut self.memory)
+        } else {
+            (Journal::package_frozen, &mut self.frozen)
+        };
+        if list.is_empty() {
+            return None;
+        }
+        let blocks = package(&mut self.journal, &self.ring[..], out).unwrap();
+        self.last = 0;
+        Some(Batch { entries: take(list), blocks })
+    }
+}
+
 /// From a recovery to the next power cut.
 fn live(card: &mut Card, r: usize, most: usize, random: &mut Random, seen: &mut Seen) {
-    let mut journal = recover(card, r, seen);
-    let mut ring = random.bytes(r);
+    let mut unit = Unit::new(recover(card, r, seen), random.bytes(r));
     let mut out = vec![0; BLOCK * card.blocks()];
-    let [mut frozen, mut memory] = [vec![], vec![]];
     while random.below(80) > 0 {
         match random.below(20) {
-            0..14 => {
-                let entry = Entry::random(random, most);
-                let Entry { is_clone, first, second } = &entry;
-                let append = if *is_clone { Journal::append_clone } else { Journal::append_insert };
-                match append(&mut journal, &mut ring, first, second) {
-                    Ok(()) => memory.push(entry),
-                    Err(Refusal::RegionFull | Refusal::RingFull) => seen.full += 1,
-                    Err(why) => panic!("{why}"),
-                }
-            }
-            14 => {
-                journal.freeze().unwrap();
-                frozen.append(&mut memory);
-            }
+            0..13 => seen.full += usize::from(!unit.append(Entry::random(random, most))),
+            13 => unit.freeze(),
+            14 => seen.thawed += usize::from(unit.thaw()),
             15..18 => {
-                let is_frozen = !frozen.is_empty();
-                let (package, list): (fn(&mut _, &_, &mut _) -> _, _) = if is_frozen {
-                    (Journal::package_frozen, &mut frozen)
-                } else {
-                    (Journal::package_in_memory, &mut memory)
-                };
-                if list.is_empty() {
+                let Some(batch) = unit.package(&mut out) else {
                     continue;
-                }
-                let blocks = package(&mut journal, &ring[..], &mut out[..]).unwrap();
-                card.store(&out[..BLOCK * blocks]);
+                };
+                card.store(&out[..BLOCK * batch.blocks]);
                 if random.below(10) == 0 {
                     seen.not_live_yet += 1;
                     return;
                 }
-                card.live.push_back(Batch { entries: take(list), blocks });
+                card.live.push_back(batch);
             }
             _ => {
                 seen.dropped += usize::from(!card.live.is_empty());
                 card.drop_oldest();
-                journal.update_written(card.live_blocks()).unwrap();
+                unit.journal.update_written(card.live_blocks()).unwrap();
             }
         }
     }
@@ -167,7 +208,8 @@ fn lives_of_units() {
         }
     }
     println!("{seen:?}");
-    let Seen { replayed, wrapped, crossed, dropped, full, not_live_yet } = seen;
+    let Seen { replayed, wrapped, crossed, dropped, full, thawed, not_live_yet } = seen;
     assert!(replayed > 50_000 && wrapped > 500 && crossed > 100, "{seen:?}");
-    assert!(dropped > 1_000 && full > 1_000 && not_live_yet > 100, "{seen:?}");
+    assert!(dropped > 1_000 && full > 1_000 && thawed > 1_000, "{seen:?}");
+    assert!(not_live_yet > 100, "{seen:?}");
 }

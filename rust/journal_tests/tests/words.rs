@@ -1,6 +1,6 @@
 //! The record's calls on words, as a C caller has them: one journal from its opening to its replay,
 //! with the layout of the words written out; and words that say no record.
-use journal_tests::model::journalist::{LAYOUT, WORDS};
+use journal_tests::model::record::{LAYOUT, WORDS};
 use nungakes::calls;
 
 const RING: usize = 600;
@@ -94,18 +94,29 @@ fn one_journal() {
 }
 
 #[test]
+fn a_freeze_taken_back() {
+    let (mut words, mut ring) = (empty(), [0; RING]);
+    assert_eq!(calls::thaw(&mut words), 17);
+    assert_eq!(words, empty());
+    assert_eq!(calls::append_clone(&mut words, &mut ring, b"from", b"to"), 0);
+    let before = words;
+    assert_eq!(words[4..10], [0, 0, 1, 14, 0, 0]);
+    assert_eq!(calls::freeze(&mut words), 0);
+    assert_eq!(words[4..10], [1, 14, 0, 0, 0, 1]);
+    assert_eq!(words[17..], [1, 1, 14, 1, BEHIND]);
+    assert_eq!(calls::thaw(&mut words[..WORDS - 1]), 2);
+    assert_eq!(calls::thaw(&mut words), 0);
+    assert_eq!(words, before);
+    assert_eq!(calls::thaw(&mut words), 17);
+}
+
+#[test]
 fn damaged_words() {
     let mut damaged = vec![empty()[..WORDS - 1].to_vec(), vec![]];
-    for (place, word) in [
-        (0, 0),
-        (0, LAYOUT - 1),
-        (0, LAYOUT + 1),
-        (13, 2),
-        (14, 1),
-        (15, u64::MAX),
-        (16, 1),
-        (17, 1),
-    ] {
+    let layouts = [0, LAYOUT - 1, LAYOUT + 1].map(|word| (0, word));
+    let sides = [(13, 2), (14, 1), (15, u64::MAX), (16, 1)];
+    let counts = [17, 18, 19, 20].map(|place| (place, 1));
+    for (place, word) in layouts.into_iter().chain(sides).chain(counts) {
         let mut words = empty();
         words[place] = word;
         damaged.push(words.to_vec());
@@ -116,6 +127,7 @@ fn damaged_words() {
         assert_eq!(calls::append_insert(&mut words, &mut ring, b"", b""), 2);
         assert_eq!(calls::append_clone(&mut words, &mut ring, b"", b""), 2);
         assert_eq!(calls::freeze(&mut words), 2);
+        assert_eq!(calls::thaw(&mut words), 2);
         assert_eq!(calls::set_written(&mut words, 0), 2);
         assert_eq!(calls::update_written(&mut words, 0), 2);
         assert_eq!(calls::package_frozen(&mut words, &ring, &mut out), 2);

@@ -1,7 +1,7 @@
 //! The safe wrapper says what the calls on words say: the journal's through the tests histories and lives, the others
 //! here.
 use journal_tests::model::block::{BLOCK, HEAD, PAYLOAD};
-use journal_tests::model::journalist::WORDS;
+use journal_tests::model::record::WORDS;
 use journal_tests::model::writing;
 use journal_tests::random::Random;
 use nungakes::places::{self, Interval, Location};
@@ -15,9 +15,11 @@ fn records() {
     assert_eq!(words, *journal.words());
     assert_eq!(Journal::from(words), journal);
     assert_eq!(Journal::open(0, 600), Err(Refusal::SizeOutOfRange));
+    assert_eq!(journal.clone().thaw(), Err(Refusal::NoFreeze));
 
     let mut damaged = Journal::from([7; WORDS]);
     assert_eq!(damaged.freeze(), Err(Refusal::CountsDisagree));
+    assert_eq!(damaged.thaw(), Err(Refusal::CountsDisagree));
     assert_eq!(damaged.get_written(), Err(Refusal::CountsDisagree));
     assert_eq!(damaged.waiting_clones(), Err(Refusal::CountsDisagree));
     assert_eq!(*damaged.words(), [7; WORDS]);

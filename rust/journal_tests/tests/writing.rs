@@ -4,7 +4,7 @@
 use journal_tests::call::{compared, Call, Call::*};
 use journal_tests::memory::{Lent, Memory};
 use journal_tests::model::block::{BLOCK, HEAD, PAYLOAD};
-use journal_tests::model::journalist::{LAYOUT, WORDS};
+use journal_tests::model::record::{LAYOUT, WORDS};
 use journal_tests::model::writing::{self, Entry};
 use journal_tests::model::{crc, entries};
 use journal_tests::random::Random;

@@ -46,6 +46,7 @@ over_slices! {
     append_insert = journal_append_insert(words: &mut [u64], ring: &mut [u8], key: &[u8], value: &[u8]);
     append_clone = journal_append_clone(words: &mut [u64], ring: &mut [u8], from: &[u8], to: &[u8]);
     freeze = journal_freeze(words: &mut [u64]);
+    thaw = journal_thaw(words: &mut [u64]);
     package_frozen = journal_package_frozen(words: &mut [u64], ring: &[u8], out: &mut [u8]);
     package_in_memory = journal_package_in_memory(words: &mut [u64], ring: &[u8], out: &mut [u8]);
     set_written = journal_set_written(words: &mut [u64]; len);

@@ -101,9 +101,16 @@ impl Journal {
         answered(calls::append_clone(&mut self.words, ring, from, to))
     }
 
-    /// Moves the in-memory list behind the frozen one: 2.
+    /// Moves the in-memory list behind the frozen one: 2. Where that moves any entries, a thaw can take it back.
     pub fn freeze(&mut self) -> Result<(), Refusal> {
         answered(calls::freeze(&mut self.words))
+    }
+
+    /// Takes back the last freeze that moved any entries: 2, 17. They go in front of the in-memory list, so that
+    /// appends made since stay behind them, and the freeze's blocks are taken off. Packaging the frozen list
+    /// forgets that freeze, and so does a thaw. No byte of the ring moves.
+    pub fn thaw(&mut self) -> Result<(), Refusal> {
+        answered(calls::thaw(&mut self.words))
     }
 
     /// The frozen list's image to the start of `out`, and its blocks: 2, 8, 15, 9. Until it is stored, `out` is the

@@ -17,6 +17,11 @@
 //!     journal.append_clone(&mut ring, b"fish/", b"trial/")?;
 //!     assert_eq!(journal.waiting_clones()?, 1);
 //!
+//!     // closed too early: the freeze is taken back, and a missing spawning goes behind
+//!     journal.freeze()?;
+//!     journal.thaw()?;
+//!     journal.append_insert(&mut ring, b"fish/18", b"dam 4, sire 9")?;
+//!
 //!     // what is pending, as blocks: from here on the card has to keep them
 //!     let mut card = [0; 4 * BLOCK];
 //!     let blocks = journal.package_in_memory(&ring, &mut card)?;
@@ -33,6 +38,9 @@
 //!     journal.pop(&replay)?;
 //!     let second = journal.top(&replay)?.entry(&replay);
 //!     assert_eq!(second, Entry::Clone { from: b"fish/", to: b"trial/" });
+//!     journal.pop(&replay)?;
+//!     let third = journal.top(&replay)?.entry(&replay);
+//!     assert_eq!(third, Entry::Insert { key: b"fish/18", value: b"dam 4, sire 9" });
 //!     journal.set_written(blocks)
 //! }
 //! ```

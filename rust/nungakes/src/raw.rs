@@ -143,6 +143,7 @@ extern "C" {
         to_len: usize,
     ) -> u64;
     pub fn journal_freeze(words: *mut u64, words_len: usize) -> u64;
+    pub fn journal_thaw(words: *mut u64, words_len: usize) -> u64;
     pub fn journal_set_written(words: *mut u64, words_len: usize, len: u64) -> u64;
     pub fn journal_update_written(words: *mut u64, words_len: usize, len: u64) -> u64;
     pub fn journal_package_frozen(

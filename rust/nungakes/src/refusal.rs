@@ -24,6 +24,7 @@ pub enum Refusal {
     Unreadable,
     RingUnreadable,
     PlaceNotValid,
+    NoFreeze,
 }
 
 use Refusal::*;
@@ -48,6 +49,7 @@ impl Refusal {
             Unreadable => 14,
             RingUnreadable => 15,
             PlaceNotValid => 16,
+            NoFreeze => 17,
         }
     }
 
@@ -70,6 +72,7 @@ impl Refusal {
             14 => Unreadable,
             15 => RingUnreadable,
             16 => PlaceNotValid,
+            17 => NoFreeze,
             _ => return None,
         })
     }
@@ -94,6 +97,7 @@ impl fmt::Display for Refusal {
             Unreadable => "the bytes do not read as entries",
             RingUnreadable => "the ring's pending bytes are not the counted entries and clones",
             PlaceNotValid => "the interval or location is not valid",
+            NoFreeze => "no freeze is remembered",
         };
         f.write_str(text)
     }

@@ -1,9 +1,9 @@
 //! The record as words, and the numbers that a caller sizes its buffers by. The tests compare them with c/journal.h.
 
 /// The words of a record. Words behind them are neither read nor changed.
-pub const WORDS: usize = 18;
+pub const WORDS: usize = 21;
 /// What stands at [`word::LAYOUT`]: other layouts are refused with 2.
-pub const LAYOUT: u64 = 2;
+pub const LAYOUT: u64 = 3;
 /// Bytes of a block of an image: 32 of checksum, then the payload.
 pub const BLOCK: usize = 4096;
 /// Bytes of a block's payload.
@@ -47,4 +47,9 @@ pub mod word {
     pub const BACK_BLOCKS: usize = 16;
     /// Clones that are pending, in both lists together.
     pub const CLONES: usize = 17;
+    /// Of the last freeze that moved any entries, which a thaw takes back: what it moved, and the blocks that it added.
+    /// All 0 where no freeze is remembered.
+    pub const LAST_ENTRIES: usize = 18;
+    pub const LAST_BYTES: usize = 19;
+    pub const LAST_BLOCKS: usize = 20;
 }

@@ -2,7 +2,7 @@
 //!
 //! What was handed out as an image survives; what was still pending in the ring does not. A station's firmware would
 //! put the image on its card where this program only keeps it in `card`.
-use nungakes::{strip, Entry, Journal, Refusal, BLOCK, PAYLOAD, WORDS};
+use nungakes::{strip, word, Entry, Journal, Refusal, BLOCK, PAYLOAD, WORDS};
 
 const BLOCKS: usize = 4;
 const RING: usize = BLOCKS * PAYLOAD;
@@ -15,19 +15,24 @@ fn to_card(journal: &mut Journal, ring: &[u8], card: &mut [u8]) -> Result<(), Re
     Ok(())
 }
 
-/// Two inserts go to the card, then a clone; a third insert and another clone are still in the ring. How many blocks
-/// are live.
+/// Three inserts go to the card, then a clone; a fourth insert and another clone are still in the ring. How many
+/// blocks are live.
 fn journal_pedigree(card: &mut [u8]) -> Result<usize, Refusal> {
     let mut ring = [0; RING];
     let mut journal = Journal::open(BLOCKS, RING)?;
     journal.append_insert(&mut ring, b"fish/17", b"dam 4, sire 9")?;
     journal.append_insert(&mut ring, b"fish/18", b"dam 4, sire 9")?;
     journal.freeze()?;
+    // a technician closes a session and finds one spawning missing
+    journal.thaw()?;
+    println!("taken back: {} entries in memory", journal.words()[word::MEMORY_ENTRIES]);
+    journal.append_insert(&mut ring, b"fish/19", b"dam 4, sire 9")?;
+    journal.freeze()?;
     to_card(&mut journal, &ring, card)?;
     journal.append_clone(&mut ring, b"fish/", b"trial/")?;
     journal.freeze()?;
     to_card(&mut journal, &ring, card)?;
-    journal.append_insert(&mut ring, b"fish/19", b"still in the ring")?;
+    journal.append_insert(&mut ring, b"fish/20", b"still in the ring")?;
     journal.append_clone(&mut ring, b"fish/", b"second trial/")?;
     // what staff look at before they unplug a unit
     println!("clones waiting: {}", journal.waiting_clones()?);

@@ -67,9 +67,9 @@ fn append(words: &mut [u64], ring: &mut [u8], Entry { is_clone, first, second }:
     assert_eq!(append(words, ring, first, second), 0);
 }
 
-/// The image of these parts, and whether they were frozen; a whole list need not be. The list starts
-/// anywhere in a ring that is little longer, and behind a frozen one there may be an entry in memory.
-/// `out` has some bytes more.
+/// The image of these parts, and whether they were frozen; a whole list need not be. Some of a part may be
+/// frozen before the rest is there, and is then taken back. The list starts anywhere in a ring that is
+/// little longer, and behind a frozen one there may be an entry in memory. `out` has some bytes more.
 fn image(parts: &[&[Entry]], random: &mut Random) -> (bool, Vec<u8>) {
     let frozen = parts.len() > 1 || random.below(2) == 0;
     let behind: Vec<Entry> = (0..random.below(2)).map(|_| Entry::random(random, 40)).collect();
@@ -81,7 +81,13 @@ fn image(parts: &[&[Entry]], random: &mut Random) -> (bool, Vec<u8>) {
     assert_eq!(calls::open(&mut words, 1_024, ring.len() as u64), 0);
     words[word::START] = random.below(ring.len()) as u64;
     for part in parts {
-        part.iter().for_each(|entry| append(&mut words, &mut ring, entry));
+        let (early, rest) = part.split_at(random.below(part.len() + 1));
+        early.iter().for_each(|entry| append(&mut words, &mut ring, entry));
+        assert_eq!(calls::freeze(&mut words), 0);
+        rest.iter().for_each(|entry| append(&mut words, &mut ring, entry));
+        if !early.is_empty() {
+            assert_eq!(calls::thaw(&mut words), 0);
+        }
         if frozen {
             assert_eq!(calls::freeze(&mut words), 0);
         }

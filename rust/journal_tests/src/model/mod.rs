@@ -7,4 +7,5 @@ pub mod journalist;
 pub mod places;
 pub mod plain;
 pub mod reading;
+pub mod record;
 pub mod writing;

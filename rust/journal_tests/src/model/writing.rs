@@ -67,6 +67,16 @@ pub fn weighing(random: &mut Random, weight: usize) -> Vec<Entry> {
     (0..n).map(entry).collect()
 }
 
+/// A few entries, or such as fill one block or two, or nearly so.
+pub fn some(random: &mut Random) -> Vec<Entry> {
+    if random.below(4) == 0 {
+        let weight = PAYLOAD * (1 + random.below(2)) - 8 - random.below(3);
+        return weighing(random, weight);
+    }
+    let most = random.one_of(&[0, 3, 40, 400, 1_024]);
+    (0..1 + random.below(6)).map(|_| Entry::random(random, most)).collect()
+}
+
 /// The payload of a batch of so many blocks: entries from `next`, until one finds no room.
 pub fn full_batch(blocks: usize, mut next: impl FnMut() -> Entry) -> Vec<u8> {
     let mut entries = Vec::new();

@@ -5,7 +5,7 @@ mod state;
 
 use journal_tests::call::{compared, Call, Call::*, NUMBERLESS, QUERIES};
 use journal_tests::memory::{Lent, Memory, Slices};
-use journal_tests::model::journalist::{self, WORDS};
+use journal_tests::model::record::{conditions, hang_together, WORDS};
 use journal_tests::random::{times, Random};
 use state::State;
 use std::collections::{BTreeMap, BTreeSet};
@@ -24,7 +24,7 @@ impl Tally {
         let code = compared(&mut self.memory, call, lent, &[&Call::of_library, &Call::of_plain])
             .unwrap_or_else(|e| panic!("{e}"));
         *self.answers.entry(call.name()).or_default().entry(code % 256).or_default() += 1;
-        let conditions = journalist::conditions(&lent.words).unwrap_or_default();
+        let conditions = conditions(&lent.words).unwrap_or_default();
         let fail = conditions.iter().filter(|(_, a, b)| a > b).count();
         for (name, a, b) in conditions {
             if fail == 0 && a == b {
@@ -40,7 +40,7 @@ impl Tally {
         let calls: usize = self.answers.values().flat_map(BTreeMap::values).sum();
         println!("{calls} calls: {:?}; {:?}", self.answers, self.edges);
         assert!(calls >= at_least, "{calls} calls");
-        assert_eq!(self.answers.len(), 21);
+        assert_eq!(self.answers.len(), 22);
         for call in changing().chain(QUERIES) {
             let mut row: BTreeSet<u64> = call.numbers().iter().copied().collect();
             row.insert(0);
@@ -49,12 +49,16 @@ impl Tally {
         }
     }
 
-    /// Each condition decided alone, either way. (Two follow from that on the region.)
+    /// Each condition decided alone, either way. (Two follow from that on the region, and a thaw never
+    /// leaves memory empty.)
     fn edges(&self) {
-        let hanging = journalist::conditions(&State::new(&mut Random(0)).words).unwrap();
-        for (name, ..) in hanging.iter().filter(|(name, ..)| !["written", "held"].contains(name)) {
+        let mut states = (0..).map(|seed| State::new(&mut Random(seed)));
+        let remembers = states.find(|state| state.words[18] > 0).unwrap();
+        let follow = ["written", "held", "none in memory, thawed"];
+        for (name, ..) in conditions(&remembers.words).unwrap() {
             let [held, failed] = self.edges.get(name).copied().unwrap_or_default();
-            assert!(held > 0 && failed > 0, "{name}: {held} and {failed}");
+            let both = held > 0 && failed > 0;
+            assert!(both || follow.contains(&name), "{name}: {held} and {failed}");
         }
     }
 }
@@ -66,38 +70,28 @@ fn changing() -> impl Iterator<Item = Call> {
 
 /// What a word is damaged to, whichever it is: the document's limits, and numbers that are small in 32
 /// bits or whose products are small in 64.
-fn values(words: &[u64]) -> [u64; 9] {
+fn values(words: &[u64]) -> [u64; 11] {
     let [n, r] = [words[1], words[2]];
-    let wide = [1 << 32, 1 << 63, u64::MAX];
-    [0, 1, n, n.wrapping_add(1), r, r.wrapping_add(1), wide[0], wide[1], wide[2]]
+    let [a, b, c, d] = [32, 59, 61, 63].map(|bit| 1 << bit);
+    [0, 1, n, n.wrapping_add(1), r, r.wrapping_add(1), a, b, c, d, u64::MAX]
 }
 
-/// A number near one that a condition of the record has.
-fn near(words: &[u64], random: &mut Random) -> u64 {
-    let [n, r, written, held] = [1, 2, 8, 9].map(|at| words[at]);
-    let payload = |blocks: u64| blocks.wrapping_mul(4_064);
-    let region = payload(n.wrapping_sub(written).wrapping_sub(held));
-    let list = random.one_of(&[4, 6]);
-    let [entries, bytes, others] = [list, list + 1, 12 - list - 1].map(|at| words[at]);
-    let replay = random.one_of(&[words[11] / 8, words[12].wrapping_mul(8)]);
-    let any = random.word();
-    let edge = random.one_of(&[
-        region.wrapping_sub(8),
-        payload(held).wrapping_sub(8),
-        r.wrapping_sub(others),
-        entries.wrapping_mul(8),
-        bytes / 8,
-        n.wrapping_sub(held),
-        n.wrapping_sub(written),
-        words[4].wrapping_add(words[6]),
-        replay,
-        1_024,
-        8_388_608,
-        1 << 59,
-        1 << 61,
-        any,
-    ]);
-    edge.wrapping_add(random.one_of(&[0, 1, u64::MAX]))
+/// For the word at a place, each number with which a condition of the record just holds, and those beside
+/// it: one more of the word brings the condition's two sides so much closer, and so do others.
+fn near(words: &[u64], at: usize) -> Vec<u64> {
+    let gaps = |words: &[u64]| {
+        let all = conditions(words).unwrap_or_default().into_iter();
+        all.map(|(name, a, b)| (name, b as i128 - a as i128)).collect::<BTreeMap<_, _>>()
+    };
+    let mut more = words.to_vec();
+    more[at] = more[at].wrapping_add(1);
+    let more = gaps(&more);
+    let edge = |(name, gap): (&str, i128)| {
+        let closer = gap - more.get(name)?;
+        (closer != 0).then(|| (i128::from(words[at]) + gap / closer) as u64)
+    };
+    let edges = gaps(words).into_iter().filter_map(edge);
+    edges.flat_map(|edge| [edge.wrapping_sub(1), edge, edge.wrapping_add(1)]).collect()
 }
 
 /// Each word of a record, damaged to each value, for each call; and two words at once.
@@ -119,7 +113,7 @@ fn every_word() {
             let own = whole.words[at];
             let mut all = values(&whole.words).to_vec();
             all.extend([own.wrapping_add(1), own.wrapping_sub(1)]);
-            all.extend([(); 3].map(|()| near(&whole.words, random)));
+            all.extend(near(&whole.words, at));
             for value in all {
                 let mut state = whole.clone();
                 state.words[at] = value;
@@ -128,14 +122,40 @@ fn every_word() {
         }
         for _ in 0..40 {
             let mut state = whole.clone();
-            let two = [random.one_of(&values(&whole.words)), near(&whole.words, random)];
-            for value in two {
-                state.words[random.below(WORDS)] = value;
+            for _ in 0..2 {
+                let at = random.below(WORDS);
+                let all = [&values(&state.words)[..], &near(&state.words, at)].concat();
+                state.words[at] = random.one_of(&all);
             }
             compare(state, random);
         }
     }
     tally.edges();
+}
+
+/// On a damaged record, more bytes may be remembered than the remembered blocks hold. An append is taken
+/// even so, and may leave no room for a thaw: then the next call is refused.
+#[test]
+fn no_room_for_a_thaw() {
+    let mut tally = Tally::default();
+    let random = &mut Random(5);
+    let mut overfull = 0;
+    for _ in 0..2_000 * times() {
+        let state = State::new(random).without_last_blocks();
+        for call in [AppendInsert, AppendClone] {
+            tally.compare(call, &state.lent(call, random));
+            let words = tally.memory.lent().words;
+            if hang_together(&state.words) && !hang_together(&words) {
+                overfull += 1;
+                let state = State { words, ..state.clone() };
+                for call in changing().chain(QUERIES) {
+                    tally.compare(call, &state.lent(call, random));
+                }
+            }
+        }
+    }
+    assert!(overfull > 50, "{overfull}");
+    assert_eq!(tally.answers["Thaw"].keys().collect::<Vec<_>>(), [&2]);
 }
 
 /// Words of a wire form and of a batch, at and past their limits.
@@ -167,14 +187,15 @@ fn damage(state: &mut State, call: Call, random: &mut Random) {
         Strip => Some(7),
         _ => None,
     };
+    let at = random.below(WORDS);
     let value = random.one_of(&values(&state.words));
-    let near = near(&state.words, random);
+    let near = near(&state.words, at);
     let State { words, ring, front, back, replay, image } = state;
     match read.filter(|_| random.below(2) == 0).unwrap_or(random.below(8)) {
-        0 => words[random.below(WORDS)] = value,
-        1 => words[random.below(WORDS)] = near,
+        1 if !near.is_empty() => words[at] = random.one_of(&near),
+        0 | 1 => words[at] = value,
         2 => {
-            let at = random.one_of(&[3, 4, 5, 6, 7, 9, 10, 11, 12, 17]);
+            let at = random.one_of(&[3, 4, 5, 6, 7, 9, 10, 11, 12, 17, 18, 19, 20]);
             words[at] = words[at].wrapping_add(random.one_of(&[1, 8, u64::MAX, u64::MAX - 7]));
         }
         3 => {

@@ -3,7 +3,7 @@ use journal_tests::call::{Call, Call::*, NUMBERLESS, QUERIES};
 use journal_tests::memory::Lent;
 use journal_tests::model::block::{BLOCK, PAYLOAD};
 use journal_tests::model::entries::{self, clones};
-use journal_tests::model::journalist::{self, LAYOUT};
+use journal_tests::model::record::{hang_together, LAYOUT};
 use journal_tests::model::writing::{self, Entry};
 use journal_tests::random::Random;
 
@@ -20,19 +20,11 @@ pub struct State {
     pub image: Vec<u8>,
 }
 
-/// No entries, some, or such as fill one block or two, or nearly so.
+/// Some entries, or none.
 fn list(random: &mut Random) -> Vec<Entry> {
-    match random.below(6) {
-        0 | 1 => vec![],
-        2 => {
-            let blocks = 1 + random.below(2);
-            let less = random.below(3);
-            writing::weighing(random, PAYLOAD * blocks - 8 - less)
-        }
-        _ => {
-            let most = random.one_of(&[0, 3, 40, 400, 1_024]);
-            (0..1 + random.below(6)).map(|_| Entry::random(random, most)).collect()
-        }
+    match random.below(3) {
+        0 => vec![],
+        _ => writing::some(random),
     }
 }
 
@@ -49,40 +41,57 @@ fn blocks(list: &[Entry]) -> usize {
     }
 }
 
+/// The blocks of a region in which so many are pending, and those written: a few, or all others.
+fn region(pending: usize, most: usize, random: &mut Random) -> (usize, usize) {
+    let written = random.below(most + 1);
+    let used = (written + pending).max(1);
+    let n = random.one_of(&[used, used, used + 1, used + 4, 1_024]);
+    let more = if n == 1_024 { random.one_of(&[0, n - used]) } else { 0 };
+    (n, written + more)
+}
+
+/// A ring with these forms, from its start on; it may be longer.
+fn ring(forms: &[u8], random: &mut Random) -> (Vec<u8>, usize) {
+    let more = random.one_of(&[0, 1, 8, 100, 2_000]);
+    let mut ring = [forms, &random.bytes(more)].concat();
+    let start = if ring.is_empty() { 0 } else { random.below(ring.len()) };
+    ring.rotate_right(start);
+    (ring, start)
+}
+
+/// So many batches at most, for which front and back of n blocks have room; and front's length of them.
+fn range(batches: usize, n: usize, random: &mut Random) -> (Vec<u8>, usize) {
+    let mut range = vec![];
+    for _ in 0..random.below(batches + 1) {
+        let batch = writing::batch(&list(random), random.below(2));
+        if range.len() + batch.len() <= 2 * n * PAYLOAD {
+            range.extend(batch);
+        }
+    }
+    let all = range.len() / PAYLOAD;
+    let least = all.saturating_sub(n);
+    let front = least + random.below(all.min(n) - least + 1);
+    (range, front * PAYLOAD)
+}
+
 impl State {
+    /// Of what is frozen, some was before the last freeze that moved any. Where that moved none here, it
+    /// is not remembered.
     pub fn new(random: &mut Random) -> Self {
         // the most of each thing: none, in one state of twelve
         let most = usize::from(random.below(12) > 0);
-        let [frozen, memory, left] =
-            [(); 3].map(|()| if most == 0 { vec![] } else { list(random) });
-        let held = blocks(&frozen) + random.one_of(&[0, 0, 0, most]);
-        let written = random.below(2 * most + 1);
-        let used = (written + held + blocks(&memory)).max(1);
-        let n = random.one_of(&[used, used, used + 1, used + 4, 1_024]);
-        let written = written + if n == 1_024 { random.one_of(&[0, n - used]) } else { 0 };
-
-        let pending = [forms(&frozen), forms(&memory)].concat();
-        let r = pending.len() + random.one_of(&[0, 1, 8, 100, 2_000]);
-        let mut ring = [&pending[..], &random.bytes(r - pending.len())].concat();
-        let start = if r == 0 { 0 } else { random.below(r) };
-        ring.rotate_right(start);
-
+        let most_frozen = most.min(random.below(4));
+        let [before, last, memory, left] = [most_frozen, most_frozen, most, most]
+            .map(|most| (0..most).flat_map(|_| list(random)).collect::<Vec<_>>());
+        let frozen = [&before[..], &last].concat();
+        let held = blocks(&before) + blocks(&last) + random.one_of(&[0, 0, 0, most]);
+        let (n, written) = region(held + blocks(&memory), 2 * most, random);
+        let (ring, start) = ring(&[forms(&frozen), forms(&memory)].concat(), random);
         let place = random.one_of(&[0, 1, 100]);
-        let forms_left = forms(&left);
         let behind = random.one_of(&[0, 0, 9]);
-        let replay = [random.bytes(place), forms_left.clone(), random.bytes(behind)].concat();
-
-        let mut range = vec![];
-        for _ in 0..random.below(2 * most + 1) {
-            let batch = writing::batch(&list(random), random.below(2));
-            if range.len() + batch.len() <= 2 * n * PAYLOAD {
-                range.extend(batch);
-            }
-        }
-        let all = range.len() / PAYLOAD;
-        let least = all.saturating_sub(n);
-        let split = least + random.below(all.min(n) - least + 1);
-        let (front, back) = range.split_at(split * PAYLOAD);
+        let replay = [random.bytes(place), forms(&left), random.bytes(behind)].concat();
+        let (range, split) = range(2 * most, n, random);
+        let (front, back) = range.split_at(split);
         let mut side = |s: &[u8]| {
             let present = !s.is_empty() || random.below(3) < most;
             [usize::from(present), s.len() / PAYLOAD]
@@ -91,24 +100,35 @@ impl State {
 
         let counts = |list: &[Entry]| [list.len(), forms(list).len()];
         let clones = clones(&frozen) + clones(&memory);
-        let mut words: Vec<u64> = [
-            &[LAYOUT as usize, n, r, start][..],
+        let words = [
+            &[LAYOUT as usize, n, ring.len(), start][..],
             &counts(&frozen),
             &counts(&memory),
-            &[written, held, place, forms_left.len(), left.len()],
+            &[written, held, place, forms(&left).len(), left.len()],
             &front_words,
             &back_words,
             &[clones as usize],
+            &counts(&last),
+            &[blocks(&last)],
         ]
-        .concat()
-        .into_iter()
-        .map(|n| n as u64)
-        .collect();
-        let conditions = journalist::conditions(&words).unwrap();
-        assert!(conditions.iter().all(|(_, a, b)| a <= b), "{words:?}");
+        .concat();
+        let mut words: Vec<u64> = words.into_iter().map(|n| n as u64).collect();
+        assert!(hang_together(&words), "{words:?}");
         words.extend((0..random.below(3)).map(|_| random.word()));
-        let image = writing::image(&range);
-        State { words, ring, front: front.into(), back: back.into(), replay, image }
+        let [front, back] = [front, back].map(<[u8]>::to_vec);
+        State { words, ring, front, back, replay, image: writing::image(&range) }
+    }
+
+    /// The same without the blocks of what is remembered, in a region that just has room for a thaw. The
+    /// ring has room for any entry.
+    pub fn without_last_blocks(mut self) -> Self {
+        let words = &mut self.words;
+        let blocks = (words[7] + words[19] + 8).div_ceil(PAYLOAD as u64);
+        words[1] = words[8] + words[9] + blocks;
+        words[2] += 1_544;
+        words[20] = 0;
+        self.fit();
+        self
     }
 
     /// Makes the buffers as long as the words say, where that is not too long.
@@ -136,7 +156,7 @@ impl State {
             let next = written.wrapping_add(1);
             random.one_of(&[0, 1, n, n.wrapping_add(1), written, next, u64::MAX])
         };
-        match random.below(20) {
+        match random.below(9 + NUMBERLESS.len()) {
             0 => {
                 let n = random.one_of(&[0, 1, n, 1_024, 1_025, u64::MAX]);
                 let r = random.one_of(&[0, 1, r, 8_388_608, 8_388_609, 1 << 32]);
@@ -205,7 +225,8 @@ impl State {
         let used = payload * (self.word(8) + self.word(9)) + weight;
         let region = (payload * self.word(1)).saturating_sub(used);
         let ring = self.word(2).saturating_sub(self.word(5) + self.word(7));
-        let room = random.one_of(&[region, ring]) + random.below(2) as u128;
+        let thawed = (region + payload * self.word(20)).saturating_sub(self.word(19));
+        let room = random.one_of(&[region, ring, thawed]) + random.below(2) as u128;
         let [first, second] = match random.below(6) {
             0 => [random.one_of(&[512, 513, 600]), 3],
             1 => [3, limit + random.below(2)],

@@ -3,7 +3,7 @@
 use crate::lists::{bytes, forms, weight, Fed, Lists};
 use journal_tests::model::block::{BLOCK, PAYLOAD};
 use journal_tests::model::entries::{self, clones};
-use journal_tests::model::journalist::LAYOUT;
+use journal_tests::model::record::LAYOUT;
 use journal_tests::model::writing::Entry;
 use journal_tests::random::Random;
 use nungakes::{strip, Journal, Kind, Refusal};
@@ -129,8 +129,24 @@ impl History {
     }
 
     pub fn freeze(&mut self) {
+        let name = if self.lists.memory.is_empty() { "freeze of nothing" } else { "freeze" };
         let answer = self.journal.freeze();
-        self.answered("freeze", &answer, 0, Fed::Freeze);
+        self.answered(name, &answer, 0, Fed::Freeze);
+        self.check();
+    }
+
+    /// Noted by whether others stay frozen, and whether there were appends since.
+    pub fn thaw(&mut self) {
+        let Lists { frozen, memory, last, .. } = &self.lists;
+        let name = match (frozen.len() > last.len(), !memory.is_empty()) {
+            (false, false) => "thaw",
+            (false, true) => "thaw before appends",
+            (true, false) => "thaw behind others",
+            (true, true) => "thaw between",
+        };
+        let wanted = first_of(&[(17, last.is_empty())]);
+        let answer = self.journal.thaw();
+        self.answered(name, &answer, wanted, Fed::Thaw);
         self.check();
     }
 
@@ -288,7 +304,7 @@ impl History {
 
     /// The record's words are those of the plain lists, and the queries answer as they do.
     fn check(&mut self) {
-        let Lists { frozen, memory, held, written, .. } = &self.lists;
+        let Lists { frozen, memory, held, written, last, last_blocks, .. } = &self.lists;
         let left: usize = self.left.iter().map(Entry::weight).sum();
         let [front, back] = [&self.front, &self.back].map(|side| {
             let blocks = side.as_deref().unwrap_or_default().len() / PAYLOAD;
@@ -305,6 +321,7 @@ impl History {
             &front,
             &back,
             &[waiting],
+            &[last.len() as u64, bytes(last), *last_blocks],
         ];
         assert_eq!(self.journal.words()[..], wanted.concat());
         assert!(*written <= self.n);

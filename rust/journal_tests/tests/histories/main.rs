@@ -79,25 +79,26 @@ fn step(history: &mut History, temper: Temper, random: &mut Random) {
         return;
     }
     let more = random.one_of(&[0, 0, 0, 1, 5_000, -1, -4_096]);
-    match random.below(20) {
-        0..5 => history.freeze(),
-        5..8 => history.package(true, random.below(8), more, random),
-        8..11 => history.package(false, random.below(8), more, random),
-        11..13 => {
+    match random.below(24) {
+        0..6 => history.freeze(),
+        6..9 => history.thaw(),
+        9..12 => history.package(true, random.below(8), more, random),
+        12..15 => history.package(false, random.below(8), more, random),
+        15..17 => {
             let some = random.below(history.n as usize + 1) as u64;
             history.set_written(random.one_of(&[some, some, history.n, history.n + 1, u64::MAX]));
         }
-        13..16 => {
+        17..20 => {
             let written = history.lists.written;
             let some = random.below(written as usize + 1) as u64;
             let lengths = [0, 0, 0, some, some, written, written + 1, history.n, u64::MAX];
             history.update_written(random.one_of(&lengths));
         }
-        16 => {
+        20 => {
             let payload = payload(history, random);
             history.set_side(random.below(2) == 0, &payload, more);
         }
-        17 => history.load(random.below(4) > 0, more),
+        21 => history.load(random.below(4) > 0, more),
         _ => drop(history.pop(random.below(8))),
     }
 }
@@ -184,9 +185,10 @@ fn small_regions() {
         all.push(run(n, r, temper, 500, random));
     }
     let seen = total(&all);
-    let wanted: [(&str, &[u8]); 12] = [
+    let wanted: [(&str, &[u8]); 17] = [
         ("append", &[0, 2, 3, 4, 5, 6]),
         ("freeze", &[0]),
+        ("freeze of nothing", &[0]),
         ("load", &[0, 2, 9, 14]),
         ("package frozen", &[0, 2, 8, 9, 15]),
         ("package in memory", &[0, 2, 7, 8, 9, 15]),
@@ -195,6 +197,11 @@ fn small_regions() {
         ("set back", &[0, 9, 13]),
         ("set front", &[0, 9, 13]),
         ("set written", &[0, 7, 10]),
+        ("thaw", &[0, 17]),
+        ("thaw before appends", &[0, 17]),
+        // never 17: where others are frozen and none is remembered, a thaw put some in memory
+        ("thaw behind others", &[0]),
+        ("thaw between", &[0, 17]),
         ("top", &[0, 2, 8, 14]),
         ("update written", &[0, 10]),
     ];

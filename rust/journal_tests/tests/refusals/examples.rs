@@ -3,13 +3,14 @@ use crate::{weighing, Case, Table};
 use journal_tests::call::{Call, Call::*};
 use journal_tests::memory::Lent;
 use journal_tests::model::block::BLOCK;
-use journal_tests::model::journalist::WORDS;
+use journal_tests::model::record::WORDS;
 use journal_tests::model::writing::{self, Entry};
 
 pub fn run(table: &mut Table) {
     examples(table);
     a_full_region(table);
     two_freezes(table);
+    one_taken_back(table);
     waiting_clones(table);
 }
 
@@ -37,6 +38,11 @@ impl<'a> Session<'a> {
         let Lent { words, written, .. } = self.table.memory.lent();
         self.words = words;
         (code, written)
+    }
+
+    /// What a call gives that is lent the record alone.
+    fn alone(&mut self, call: Call) -> u64 {
+        self.call(call, [&[]; 2], &[]).0
     }
 
     fn append(&mut self, Entry { is_clone, first, second }: &Entry) -> u64 {
@@ -69,7 +75,7 @@ fn examples(table: &mut Table) {
     let mut session = Session::open(table, 10, 40_640);
     assert_eq!([513, 512].map(|n| session.append(&insert(n))), [3, 0]);
     assert_eq!([513, 512].map(|n| session.append(&clone(n))), [4, 0]);
-    assert_eq!(session.call(Freeze, [&[]; 2], &[]).0, 0);
+    assert_eq!([Thaw, Freeze, Thaw, Freeze].map(|call| session.alone(call)), [17, 0, 0, 0]);
     assert_eq!(session.append(&weighing(8)), 0);
     assert_eq!(session.package(PackageInMemory, BLOCK), 7);
     let right = session.ring.clone();
@@ -78,10 +84,10 @@ fn examples(table: &mut Table) {
     session.ring = right;
     assert_eq!([4_095, 4_096].map(|n| session.package(PackageFrozen, n)), [9, 0]);
     assert_eq!([4_095, 4_096].map(|n| session.package(PackageInMemory, n)), [9, 0]);
-    assert_eq!(session.call(Pop, [&[]; 2], &[]).0, 8);
-    assert_eq!([11, 10].map(|n| session.call(SetWritten(n), [&[]; 2], &[]).0), [10, 0]);
+    assert_eq!(session.alone(Pop), 8);
+    assert_eq!([11, 10].map(|n| session.alone(SetWritten(n))), [10, 0]);
     session.words[8] = 11;
-    assert_eq!(session.call(Freeze, [&[]; 2], &[]).0, 2);
+    assert_eq!([Freeze, Thaw].map(|call| session.alone(call)), [2, 2]);
 
     let mut payload = writing::batch(&[weighing(100)], 0);
     let mut image = writing::image(&payload);
@@ -114,11 +120,33 @@ fn two_freezes(table: &mut Table) {
     let mut session = Session::open(table, 2, 32);
     for _ in 0..2 {
         assert_eq!(session.append(&weighing(16)), 0);
-        assert_eq!(session.call(Freeze, [&[]; 2], &[]).0, 0);
+        assert_eq!(session.alone(Freeze), 0);
     }
     assert_eq!(session.words[4..10], [2, 32, 0, 0, 0, 2]);
     assert_eq!([8_191, 8_192].map(|n| session.package(PackageFrozen, n)), [9, 0]);
     assert_eq!(session.words[4..10], [0, 0, 0, 0, 2, 0]);
+}
+
+/// Of the same two, the last is taken back with its block, and then no freeze is remembered. A freeze of
+/// nothing forgets none; what is packaged is forgotten.
+fn one_taken_back(table: &mut Table) {
+    let mut session = Session::open(table, 2, 48);
+    assert_eq!([Freeze, Thaw].map(|call| session.alone(call)), [0, 17]);
+    for _ in 0..2 {
+        assert_eq!(session.append(&weighing(16)), 0);
+        assert_eq!([Freeze, Freeze].map(|call| session.alone(call)), [0, 0]);
+        assert_eq!(session.words[18..], [1, 16, 1]);
+    }
+    assert_eq!([Thaw, Thaw].map(|call| session.alone(call)), [0, 17]);
+    assert_eq!(session.words[4..10], [1, 16, 1, 16, 0, 1]);
+    assert_eq!(session.words[18..], [0; 3]);
+    assert_eq!(session.append(&weighing(16)), 0);
+    assert_eq!(session.alone(Freeze), 0);
+    assert_eq!(session.words[4..10], [3, 48, 0, 0, 0, 2]);
+    assert_eq!(session.words[18..], [2, 32, 1]);
+    assert_eq!(session.package(PackageFrozen, 2 * BLOCK), 0);
+    assert_eq!(session.words[18..], [0; 3]);
+    assert_eq!(session.alone(Thaw), 17);
 }
 
 /// The total over both lists: clones alone count, a packaging takes off those of its list, and any ring
@@ -132,7 +160,7 @@ fn waiting_clones(table: &mut Table) {
         session.waiting()
     });
     assert_eq!(totals, [0, 1, 2]);
-    assert_eq!(session.call(Freeze, [&[]; 2], &[]).0, 0);
+    assert_eq!(session.alone(Freeze), 0);
     assert_eq!(session.waiting(), 2);
     assert_eq!([&clone, &weighing(16)].map(|entry| session.append(entry)), [0, 0]);
     assert_eq!(session.append(&Entry { first: vec![0; 513], ..clone }), 3);

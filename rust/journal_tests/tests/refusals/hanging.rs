@@ -8,7 +8,11 @@ use journal_tests::model::writing;
 
 pub fn run(table: &mut Table) {
     edges(table);
+    remembered(table);
+    after_a_thaw(table);
+    no_room_for_a_thaw(table);
     large_numbers(table);
+    large_remembered(table);
     lent_lengths(table);
 }
 
@@ -30,7 +34,7 @@ fn all_calls(words: &[u64]) -> Vec<Case> {
         let read = [a, b];
         Case { call, lent: Lent { words: words.into(), read, written, answer: vec![7; 5] } }
     };
-    let changing = [AppendInsert, AppendClone, Freeze, PackageFrozen, PackageInMemory];
+    let changing = [AppendInsert, AppendClone, Freeze, Thaw, PackageFrozen, PackageInMemory];
     let others = [SetWritten(0), UpdateWritten(0), SetFront, SetBack, Load, Top, Pop];
     changing.into_iter().chain(others).chain(QUERIES).map(case).collect()
 }
@@ -42,6 +46,22 @@ impl Table {
         let refused = cases.iter().filter(|case| self.gives(case) == 2).count();
         assert!([0, cases.len()].contains(&refused), "{refused} of {}: {words:?}", cases.len());
         refused > 0
+    }
+
+    /// An empty record with any of these words doesn't hang together.
+    fn none_hang(&mut self, rows: &[&Others]) {
+        for others in rows {
+            assert!(self.all_refuse(&with(empty(2, 100), others)), "{others:?}");
+        }
+    }
+
+    /// Records that just hang together, each with the words in which another just doesn't.
+    fn just_hang(&mut self, rows: &[(Vec<u64>, &Others)]) {
+        for (words, others) in rows {
+            assert!(!self.all_refuse(words), "{words:?}");
+            let wrong = with(words.clone(), others);
+            assert!(self.all_refuse(&wrong), "{wrong:?}");
+        }
     }
 }
 
@@ -97,17 +117,85 @@ fn edges(table: &mut Table) {
         (both, &[(6, 0), (7, 0)]),
         (small(&[]), &[(17, 1)]),
     ];
-    for (words, others) in rows {
+    table.just_hang(&rows);
+}
+
+/// What is remembered is frozen, and there are no bytes and no blocks of no entries.
+fn remembered(table: &mut Table) {
+    let small = |others| with(empty(3, 100), others);
+    let all = small(&[(4, 1), (5, 16), (9, 1), (18, 1), (19, 16), (20, 1)]);
+    let two = small(&[(4, 2), (5, 16), (9, 2), (18, 2), (19, 16), (20, 2)]);
+    let none = small(&[(4, 2), (5, 32), (9, 2)]);
+    let rows: [(Vec<u64>, &Others); 13] = [
+        (all.clone(), &[(18, 2)]),
+        (all.clone(), &[(19, 17)]),
+        (all.clone(), &[(20, 2)]),
+        // the frozen ones are fewer
+        (two.clone(), &[(4, 1)]),
+        (all.clone(), &[(5, 15)]),
+        (two, &[(9, 1)]),
+        (all.clone(), &[(4, 0), (5, 0), (9, 0)]),
+        // without entries
+        (all.clone(), &[(18, 0)]),
+        (all.clone(), &[(18, 0), (20, 0)]),
+        (all, &[(18, 0), (19, 0)]),
+        (none.clone(), &[(19, 1)]),
+        (none.clone(), &[(20, 1)]),
+        (none, &[(19, 32), (20, 2)]),
+    ];
+    table.just_hang(&rows);
+}
+
+/// The same counts with what is remembered in memory again.
+fn after_a_thaw(table: &mut Table) {
+    let small = |others| with(with(empty(3, 100), &[(9, 2), (18, 1), (20, 1)]), others);
+    let large = |others| with(with(empty(3, 10_000), &[(9, 2), (18, 1), (20, 1)]), others);
+    let full = large(&[(4, 1), (5, 4_072), (6, 1), (7, 4_048), (19, 4_072)]);
+    let rows: [(Vec<u64>, &Others); 18] = [
+        // eight bytes for each entry that stays frozen, and none for none
+        (small(&[(4, 3), (5, 32), (19, 16)]), &[(19, 17)]),
+        (small(&[(4, 3), (5, 32), (19, 16)]), &[(4, 4)]),
+        (small(&[(4, 2), (5, 16), (19, 8)]), &[(19, 16)]),
+        (small(&[(4, 1), (5, 16), (19, 16)]), &[(19, 15)]),
+        (small(&[(4, 1), (5, 16), (19, 16)]), &[(5, 17)]),
+        (small(&[(4, 2), (5, 24), (19, 16)]), &[(18, 2)]),
+        // eight for each in memory, which may have some over
+        (small(&[(4, 2), (5, 32), (19, 8)]), &[(19, 7)]),
+        (small(&[(4, 3), (5, 32), (19, 8)]), &[(18, 2)]),
+        (small(&[(4, 2), (5, 32), (6, 1), (7, 10), (19, 6)]), &[(19, 5)]),
+        (small(&[(4, 2), (5, 32), (6, 1), (7, 10), (19, 6)]), &[(7, 9)]),
+        // the blocks that stay frozen
+        (large(&[(4, 2), (5, 4_072), (19, 16)]), &[(19, 15)]),
+        (large(&[(4, 2), (5, 4_072), (19, 16)]), &[(5, 4_073)]),
+        (large(&[(4, 2), (5, 4_072), (19, 16)]), &[(20, 2)]),
+        // the region, where more is remembered than the blocks hold
+        (full.clone(), &[(7, 4_049)]),
+        (full.clone(), &[(5, 4_073), (19, 4_073)]),
+        (full, &[(20, 0)]),
+        (large(&[(1, 2), (4, 1), (5, 4_056), (19, 4_056)]), &[(5, 4_057), (19, 4_057)]),
+        (large(&[(1, 2), (4, 1), (5, 4_056), (19, 4_056)]), &[(20, 0)]),
+    ];
+    table.just_hang(&rows);
+}
+
+/// More bytes are remembered than the remembered block holds. An append looks at the region as it is, so one
+/// is taken that leaves no room for a thaw; then every call is refused.
+fn no_room_for_a_thaw(table: &mut Table) {
+    let lists = [(4, 1), (5, 4_072), (6, 1), (7, 4_040), (9, 2), (18, 1), (19, 4_072), (20, 1)];
+    let mut words = with(empty(3, 10_000), &lists);
+    for bytes in [4_048, 4_056] {
         assert!(!table.all_refuse(&words), "{words:?}");
-        let wrong = with(words, others);
-        assert!(table.all_refuse(&wrong), "{wrong:?}");
+        let lent = Lent { words, written: vec![7; 10_000], ..Lent::default() };
+        words = table.accepted(&Case { call: AppendInsert, lent }).words;
+        assert_eq!(words[7], bytes);
     }
+    assert!(table.all_refuse(&words), "{words:?}");
 }
 
 /// Numbers whose sums and products are small again in 64 bits, or which are small in 32.
 fn large_numbers(table: &mut Table) {
     const MAX: u64 = u64::MAX;
-    let rows: [&Others; 22] = [
+    table.none_hang(&[
         &[(0, 0)],
         &[(0, (1 << 32) + 1)],
         &[(1, (1 << 32) + 2)],
@@ -130,10 +218,7 @@ fn large_numbers(table: &mut Table) {
         &[(17, 1 << 32)],
         &[(17, MAX)],
         &[(4, MAX), (5, 16), (6, 2), (7, 16), (9, 1), (17, 1)],
-    ];
-    for others in rows {
-        assert!(table.all_refuse(&with(empty(2, 100), others)), "{others:?}");
-    }
+    ]);
     // a replay of any length hangs together; only no buffer is as long
     for (place, bytes) in [(MAX, 8), (MAX - 7, 8), (8, MAX), (MAX, MAX), (1 << 63, 1 << 63)] {
         for case in all_calls(&with(empty(2, 100), &[(10, place), (11, bytes), (12, 1)])) {
@@ -141,6 +226,21 @@ fn large_numbers(table: &mut Table) {
             assert_eq!(table.gives(&case) == 2, wanted, "{:?}, {place} and {bytes}", case.call);
         }
     }
+}
+
+/// The same of what is remembered.
+fn large_remembered(table: &mut Table) {
+    const MAX: u64 = u64::MAX;
+    table.none_hang(&[
+        &[(18, MAX), (19, MAX), (20, MAX)],
+        &[(4, 1), (5, 16), (9, 1), (18, (1 << 32) + 1), (19, 16), (20, 1)],
+        &[(4, 1), (5, 16), (9, 1), (18, 1), (19, (1 << 32) + 16), (20, 1)],
+        &[(4, 1), (5, 16), (9, 1), (18, 1), (19, 16), (20, (1 << 32) + 1)],
+        &[(4, 1), (5, 16), (9, 1), (18, 1 << 61), (19, 16), (20, 1)],
+        &[(4, 1), (5, 16), (9, 1), (18, 1), (19, 16), (20, 1 << 59)],
+        &[(4, 1), (5, 16), (6, MAX), (7, 8), (9, 1), (18, 1), (19, 16), (20, 1)],
+        &[(4, 1), (5, 16), (6, 1), (7, MAX - 7), (9, 1), (18, 1), (19, 16), (20, 1)],
+    ]);
 }
 
 /// Front, back and replay may be longer than recorded. What a call fills need not be as long.

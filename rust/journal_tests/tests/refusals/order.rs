@@ -3,12 +3,12 @@ use crate::{empty, forms, weighing, with, Case, Table};
 use journal_tests::call::{Call::*, QUERIES};
 use journal_tests::memory::Lent;
 use journal_tests::model::block::{BLOCK, PAYLOAD};
-use journal_tests::model::journalist::{LAYOUT, WORDS};
+use journal_tests::model::record::{LAYOUT, WORDS};
 use journal_tests::model::writing;
 use std::collections::BTreeSet;
 
 pub fn run(table: &mut Table) {
-    for part in [opening, appending, packaging, lengths, recovering, replaying] {
+    for part in [opening, appending, thawing, packaging, lengths, recovering, replaying] {
         part(table);
     }
 }
@@ -51,6 +51,18 @@ fn clones_past(case: &mut Case) {
     words[17] = words[4] + words[6] + 1;
 }
 
+fn last_past(case: &mut Case) {
+    case.lent.words[18] = case.lent.words[4] + 1;
+}
+
+fn bytes_of_no_last(case: &mut Case) {
+    case.lent.words[18..21].copy_from_slice(&[0, 1, 0]);
+}
+
+fn forgotten(case: &mut Case) {
+    case.lent.words[18..21].fill(0);
+}
+
 fn words_short(case: &mut Case) {
     case.lent.words.truncate(WORDS - 1);
 }
@@ -84,7 +96,8 @@ fn no_answer(case: &mut Case) {
 }
 
 /// What any call on a record is refused for.
-const DAMAGED: [Fault; 4] = [written_past, clones_past, words_short, another_layout];
+const DAMAGED: [Fault; 6] =
+    [written_past, clones_past, last_past, bytes_of_no_last, words_short, another_layout];
 
 /// The same, and what else its 2 is for.
 fn damaged_or(others: &[Fault]) -> Vec<Fault> {
@@ -111,7 +124,8 @@ fn opening(table: &mut Table) {
 }
 
 fn appending(table: &mut Table) {
-    let words = with(empty(2, 5_000), &[(3, 4_990), (4, 1), (5, 16), (6, 1), (7, 16), (9, 1)]);
+    let lists = [(4, 1), (5, 16), (6, 1), (7, 16), (9, 1), (18, 1), (19, 16), (20, 1)];
+    let words = with(with(empty(2, 5_000), &[(3, 4_990)]), &lists);
     let second_long: Fault = |case| {
         let limit = if case.call == AppendClone { 512 } else { 1_024 };
         case.lent.read[1] = vec![0; limit + 1];
@@ -141,6 +155,16 @@ fn appending(table: &mut Table) {
     }
 }
 
+/// Two of three entries are remembered, and one is in memory.
+fn thawing(table: &mut Table) {
+    let lists = [(4, 3), (5, 56), (6, 1), (7, 24), (9, 2), (17, 2)];
+    let words = with(with(empty(3, 200), &lists), &[(18, 2), (19, 40), (20, 1)]);
+    let base = Case { call: Thaw, lent: Lent { words, ..Lent::default() } };
+    table.in_order(base.clone(), &[(17, &[forgotten]), (2, &DAMAGED)]);
+    let thawed = [(4, 1), (5, 16), (6, 3), (7, 64), (9, 1), (17, 2)];
+    assert_eq!(table.accepted(&base).words, with(empty(3, 200), &thawed));
+}
+
 fn packaging(table: &mut Table) {
     let mut entries = [16, 40, 24].map(weighing);
     // an insert and a clone are frozen, a clone is in memory
@@ -150,7 +174,7 @@ fn packaging(table: &mut Table) {
     ring.rotate_right(190);
     let words = with(empty(3, 200), &[(3, 190), (4, 2), (5, 56), (6, 1), (7, 24), (9, 2), (17, 2)]);
     let frozen = Lent {
-        words: words.clone(),
+        words: with(words.clone(), &[(18, 1), (19, 40), (20, 1)]),
         read: [ring, vec![]],
         written: vec![7; 2 * BLOCK],
         ..Lent::default()
@@ -160,6 +184,7 @@ fn packaging(table: &mut Table) {
         let words = &mut case.lent.words;
         words[list..list + 2].fill(0);
         words[17] = words[17].min(words[4] + words[6]);
+        words[18..21].fill(0);
     };
     // the first length of the first entry, that of the last, another number of entries, the kind of the
     // first and of the last, one clone less and one more

@@ -62,10 +62,12 @@ impl Read {
         record(self.ring.len(), &[])
     }
 
+    /// Frozen at once, which is remembered.
     fn frozen(&self) -> Words {
-        let counts = [(3, self.start()), (4, self.entries), (5, self.forms.len())];
-        let others = [(9, self.blocks()), (17, self.clones)];
-        record(self.ring.len(), &[&counts[..], &others].concat())
+        let [entries, bytes, blocks] = [self.entries, self.forms.len(), self.blocks()];
+        let counts = [(3, self.start()), (4, entries), (5, bytes), (9, blocks), (17, self.clones)];
+        let last = [(18, entries), (19, bytes), (20, blocks)];
+        record(self.ring.len(), &[&counts[..], &last].concat())
     }
 
     fn in_memory(&self) -> Words {

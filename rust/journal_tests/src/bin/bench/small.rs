@@ -30,11 +30,8 @@ impl Small {
         timed.and(mixed(records)).and(answer[0])
     }
 
-    pub fn cases(&self) -> Vec<Case<'_>> {
-        let pending = [(3, 100), (4, 3), (5, 300), (6, 5), (7, 10_000), (8, 7), (9, 9), (17, 4)];
-        let pending = record(1 << 20, &pending);
-        let empty = record(1 << 20, &[(8, 7)]);
-        let case = |name: &str, before, rattle: Work, rust: Work| Case {
+    fn case(&self, name: &str, before: Words, rattle: Work, rust: Work) -> Case<'_> {
+        Case {
             name: name.into(),
             calls: RECORDS,
             bytes: size_of::<Words>() * RECORDS,
@@ -43,7 +40,16 @@ impl Small {
                 Way::new("rattle", move || self.round(before, rattle)),
                 Way::new("rust", move || self.round(before, rust)),
             ],
-        };
+        }
+    }
+
+    pub fn cases(&self) -> Vec<Case<'_>> {
+        let lists = [(3, 100), (4, 3), (5, 300), (6, 5), (7, 10_000), (8, 7), (9, 9), (17, 4)];
+        // of what is frozen, the last freeze moved two entries
+        let last = [(18, 2), (19, 200), (20, 4)];
+        let pending = record(1 << 20, &[&lists[..], &last].concat());
+        let empty = record(1 << 20, &[(8, 7)]);
+        let case = |name, before, rattle, rust| self.case(name, before, rattle, rust);
         macro_rules! query {
             ($name:literal, $of:ident) => {
                 case($name, pending, |w, a| calls::$of(w, a), |w, a| plain::$of(w, a))
@@ -52,6 +58,7 @@ impl Small {
         vec![
             case("open", empty, |w, _| calls::open(w, 9, 99), |w, _| plain::open(w, 9, 99)),
             case("freeze", pending, |w, _| calls::freeze(w), |w, _| plain::freeze(w)),
+            case("thaw", pending, |w, _| calls::thaw(w), |w, _| plain::thaw(w)),
             case(
                 "set written",
                 empty,

@@ -164,8 +164,10 @@ fn packagings(measure: &mut dyn FnMut(Row)) {
     let call = |(n, [entries, clones], ring): &(usize, [usize; 2], Vec<u8>), list: usize| {
         let len = ring.len();
         let counts = [(3, len - 2), (list, *entries), (list + 1, len), (17, *clones)];
-        let held = if list == 4 { *n } else { 0 };
-        let record = record(*n, len, &[&counts[..], &[(9, held)]].concat());
+        // frozen at once, which is remembered
+        let frozen = [(9, *n), (18, *entries), (19, len), (20, *n)];
+        let frozen = if list == 4 { &frozen[..] } else { &[] };
+        let record = record(*n, len, &[&counts, frozen].concat());
         Call { what: blocks(*n), record, others: [lent(ring), out].concat() }
     };
     measure(row!(journal_package_frozen, rings.iter().map(|ring| call(ring, 4))));
@@ -211,17 +213,22 @@ fn replays(measure: &mut dyn FnMut(Row)) {
     measure(row!(journal_pop, [1, MILLION].map(|n| call(n, &[]))));
 }
 
-/// Calls on a record alone: on an empty one, and on one with much in everything.
-fn records(measure: &mut dyn FnMut(Row)) {
-    let empty = record(1, 0, &[]);
+/// A record with much in everything, where all that is frozen is remembered; and the same without the lists.
+fn full() -> [Option<[u64; WORDS]>; 2] {
     let half = PAYLOAD * MOST / 4;
     let list = |at: usize| [(at, half / 8 - 1), (at + 1, half - 8)];
     let replay = [(10, 8), (11, 8 * MILLION), (12, MILLION)];
     let sides = [(13, 1), (14, MOST), (15, 1), (16, MOST)];
     let others = [&[(3, 1), (8, MOST / 2), (9, MOST / 4)][..], &replay, &sides].concat();
-    let lists = [&list(4)[..], &list(6), &[(17, half / 8)]].concat();
-    let full = record(MOST, LONGEST_RING, &[&others[..], &lists].concat());
-    let without_lists = record(MOST, LONGEST_RING, &others);
+    let last = [&list(18)[..], &[(20, MOST / 4)]].concat();
+    let lists = [&list(4)[..], &list(6), &[(17, half / 8)], &last].concat();
+    [[&others[..], &lists].concat(), others].map(|words| record(MOST, LONGEST_RING, &words))
+}
+
+/// Calls on a record alone: on an empty one, and on one with much in everything.
+fn records(measure: &mut dyn FnMut(Row)) {
+    let empty = record(1, 0, &[]);
+    let [full, without_lists] = full();
     let call = |what: &str, record, others: &[u64]| Call {
         what: what.into(),
         record,
@@ -241,6 +248,9 @@ fn records(measure: &mut dyn FnMut(Row)) {
         ]
     ));
     measure(row!(journal_freeze, both(&[])));
+    let one = [(4, 1), (5, 8), (9, 1), (18, 1), (19, 8), (20, 1)];
+    let thaw = [call("one entry", record(1, 8, &one), &[]), call("a full record", full, &[])];
+    measure(row!(journal_thaw, thaw));
     let set = [
         call("an empty record", empty, &[1]),
         call("a full record", without_lists, &[MOST as u64]),

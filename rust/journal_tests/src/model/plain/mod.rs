@@ -9,7 +9,7 @@ use super::block::{BLOCK, PAYLOAD};
 use super::reading::{Joined, CLONED, FIRST, INSERTED};
 use forms::Lengths;
 use record::{
-    in_range, Record, BACK, CLONES, FRONT, FROZEN, HELD, LAYOUT, MEMORY, PLACE, START, WORDS,
+    in_range, Record, BACK, CLONES, FRONT, FROZEN, HELD, LAST, LAYOUT, MEMORY, PLACE, START, WORDS,
     WRITTEN,
 };
 
@@ -72,10 +72,30 @@ pub fn freeze(words: &mut [u64]) -> u64 {
     let Ok(Record { frozen, memory, held, .. }) = Record::of(words) else {
         return 2;
     };
-    words[FROZEN] = (frozen.entries + memory.entries) as u64;
-    words[FROZEN + 1] = (frozen.bytes + memory.bytes) as u64;
+    if memory.entries == 0 {
+        return 0;
+    }
+    let blocks = memory.blocks();
+    frozen.plus(memory).store(words, FROZEN);
     words[MEMORY..MEMORY + 2].fill(0);
-    words[HELD] = (held + memory.blocks()) as u64;
+    words[HELD] = (held + blocks) as u64;
+    memory.store(words, LAST);
+    words[LAST + 2] = blocks as u64;
+    0
+}
+
+#[inline(never)]
+pub fn thaw(words: &mut [u64]) -> u64 {
+    let Ok(Record { frozen, memory, held, last, last_blocks, .. }) = Record::of(words) else {
+        return 2;
+    };
+    if last.entries == 0 {
+        return 17;
+    }
+    frozen.less(last).store(words, FROZEN);
+    memory.plus(last).store(words, MEMORY);
+    words[HELD] = (held - last_blocks) as u64;
+    words[LAST..WORDS].fill(0);
     0
 }
 
@@ -114,6 +134,7 @@ fn try_package_frozen(words: &mut [u64], ring: &[u8], out: &mut [u8]) -> Result<
     words[WRITTEN] = (written + held) as u64;
     words[HELD] = 0;
     words[CLONES] -= clones as u64;
+    words[LAST..WORDS].fill(0);
     Ok(())
 }
 

@@ -11,8 +11,9 @@ pub const PLACE: usize = 10;
 pub const FRONT: usize = 13;
 pub const BACK: usize = 15;
 pub const CLONES: usize = 17;
+pub const LAST: usize = 18;
 
-pub use super::super::journalist::{LAYOUT, WORDS};
+pub use super::super::record::{LAYOUT, WORDS};
 
 const MOST_BLOCKS: usize = 1_024;
 const LONGEST_RING: usize = 8_388_608;
@@ -43,6 +44,21 @@ impl List {
         self.weight().div_ceil(PAYLOAD)
     }
 
+    pub fn plus(self, other: List) -> List {
+        List { entries: self.entries + other.entries, bytes: self.bytes + other.bytes }
+    }
+
+    /// Without a part.
+    pub fn less(self, part: List) -> List {
+        List { entries: self.entries - part.entries, bytes: self.bytes - part.bytes }
+    }
+
+    /// To the two words from `at` on.
+    pub fn store(self, words: &mut [u64], at: usize) {
+        words[at] = self.entries as u64;
+        words[at + 1] = self.bytes as u64;
+    }
+
     pub fn hangs(self) -> bool {
         if self.entries == 0 {
             self.bytes == 0
@@ -68,6 +84,10 @@ pub struct Record {
     pub back: Option<usize>,
     /// Those in both lists.
     pub clones: usize,
+    /// What the last freeze that moved any entries moved, and the blocks that it added; all 0 where no
+    /// freeze is remembered.
+    pub last: List,
+    pub last_blocks: usize,
 }
 
 pub fn in_range(n: usize, r: usize) -> bool {
@@ -103,6 +123,8 @@ impl Record {
             front: side(w[FRONT], w[FRONT + 1])?,
             back: side(w[BACK], w[BACK + 1])?,
             clones: w[CLONES] as usize,
+            last: List::of(w[LAST], w[LAST + 1]),
+            last_blocks: w[LAST + 2] as usize,
         })
     }
 
@@ -123,5 +145,25 @@ impl Record {
             && self.front.unwrap_or(0) <= n
             && self.back.unwrap_or(0) <= n
             && self.clones <= frozen.entries + memory.entries
+            && self.remembers()
+    }
+
+    /// Whether what is remembered is frozen, and the counts would hang together after a thaw, as the
+    /// record's own do. (Every call is slower where it is not built in.)
+    #[inline(always)]
+    fn remembers(&self) -> bool {
+        let Record { n, frozen, memory, written, held, last, last_blocks, .. } = *self;
+        if last.entries == 0 {
+            return last.bytes == 0 && last_blocks == 0;
+        }
+        if last.entries > frozen.entries || last.bytes > frozen.bytes || last_blocks > held {
+            return false;
+        }
+        let (rest, joined) = (frozen.less(last), memory.plus(last));
+        let left = held - last_blocks;
+        rest.hangs()
+            && joined.hangs()
+            && joined.weight() <= PAYLOAD * (n - written - left)
+            && rest.weight() <= PAYLOAD * left
     }
 }
