@@ -11,7 +11,6 @@ use Rattle.refusals.specs.Outcome.{gives}
 use Rattle.journal_entry.specs.Entry.{JournalEntry, AllWithin, SumJournalEntries, wires}
 use Rattle.journal_entry.proofs.Reading.{sum-append, wires-append, within-append}
 use Rattle.journalist.specs.declared.Last.{Last}
-use Rattle.journalist.specs.declared.Journalist.{Journalist}
 use Rattle.journalist.specs.Updates.{moved}
 use Rattle.journalist.specs.Record.{blocksFor, thawedRecord}
 use Rattle.journalist.specs.Changes.{frozenRecord}
