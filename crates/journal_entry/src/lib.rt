@@ -2,8 +2,8 @@
 // of a ring, one slice and nothing.
 ghost use mathlib.Core.Path.{_≡_};
 ghost use mathlib.Core.Bool.{cond};
-ghost use mathlib.Core.List.{_++_};
-ghost use Prim.Native.Nat.{_+_, _-_, _≤_, _<_};
+ghost use mathlib.Core.List.{List, _++_};
+ghost use Prim.Native.Nat.{ℕ, _+_, _-_, _≤_, _<_};
 ghost use lib.Dec.{leb};
 ghost use lib.ListN.{length, getD};
 ghost use Rattle.journal_entry.specs.Entry.{cloneMark, secondLimit};
@@ -125,7 +125,7 @@ fn kind_of(word: u32) -> Kind
     }
 }
 
-fn first_len(word: u32) -> usize
+pub fn first_len(word: u32) -> usize
     ensures { λ r. ⌜ r ≡ word - cloneMark (leb 4096 word) ⌝ }
 {
     if CLONE_MARK <= word {
@@ -145,33 +145,35 @@ fn second_limit(word: u32) -> usize
     }
 }
 
-// The entry at `at` of a ++ b, if it ends by `end`, which lies in a ++ b, and is within the limits.
-pub fn entry_at(a: &[u8], b: &[u8], at: usize, end: usize) -> EntryRead
-    ensures { λ r. ⌜ r ≡ entryAt (now (a .entry) ++ now (b .entry)) at end ⌝ }
+// Whether an entry at `at` whose pieces have n bytes ends by `end`.
+pub fn fits(at: usize, n: usize, end: usize) -> bool
+    ensures { λ r. ⌜ r ≡ leb (at + 8 + n) end ⌝ }
 {
-    if a.len() + b.len() < end {
-        return EntryRead::Unreadable;
-    }
     if end < 8 {
-        return EntryRead::Unreadable;
+        return false;
     }
     let last = end - 8;
     if last < at {
-        return EntryRead::Unreadable;
+        return false;
     }
-    let word = word_at(a, b, at);
+    n <= last - at
+}
+
+// The entry at `at` with these two length words, if it ends by `end` and is within the limits, in whatever sequence
+// the words stand.
+pub fn placed(word: u32, after: u32, at: usize, end: usize) -> EntryRead
+    ensures { λ r. ⌜ ((s : List ℕ) → end ≤ length s → word ≡ wordAt s at
+        → after ≡ wordAt s (at + 4 + (word - cloneMark (leb 4096 word))) → r ≡ entryAt s at end) ⌝ }
+{
     let first = first_len(word);
     if FIRST_LIMIT < first {
         return EntryRead::Unreadable;
     }
-    if last - at < first {
-        return EntryRead::Unreadable;
-    }
-    let second = word_at(a, b, at + 4 + first) as usize;
+    let second = after as usize;
     if second_limit(word) < second {
         return EntryRead::Unreadable;
     }
-    if last - at - first < second {
+    if !fits(at, first + second, end) {
         return EntryRead::Unreadable;
     }
     EntryRead::Read(EntryPlace {
@@ -182,6 +184,22 @@ pub fn entry_at(a: &[u8], b: &[u8], at: usize, end: usize) -> EntryRead
         second_len: second,
         next: at + 8 + first + second,
     })
+}
+
+// The entry at `at` of a ++ b, if it ends by `end`, which lies in a ++ b, and is within the limits.
+pub fn entry_at(a: &[u8], b: &[u8], at: usize, end: usize) -> EntryRead
+    ensures { λ r. ⌜ r ≡ entryAt (now (a .entry) ++ now (b .entry)) at end ⌝ }
+{
+    if a.len() + b.len() < end {
+        return EntryRead::Unreadable;
+    }
+    let word = word_at(a, b, at);
+    let first = first_len(word);
+    if !fits(at, first, end) {
+        return EntryRead::Unreadable;
+    }
+    let after = word_at(a, b, at + 4 + first);
+    placed(word, after, at, end)
 }
 
 // What an entry adds to the clones: one if it is a clone.

@@ -2,12 +2,18 @@
 // An image is whole blocks of 4,096 bytes: 32 of checksum, then 4,064 of payload.
 use refusals::Refusal;
 ghost use mathlib.Core.Path.{_≡_};
-ghost use mathlib.Core.List.{_++_};
 ghost use mathlib.Core.Option.{Option·getD};
-ghost use Prim.Native.Nat.{_*_, _≤_};
-ghost use lib.ListN.{length, drop};
-ghost use Rattle.journal_image.specs.Image.{ChecksumChecksOut, withoutChecksums, lowestDamaged};
+ghost use Prim.Native.Nat.{_*_, _/_, _≤_, min};
+ghost use lib.ListN.{length};
+ghost use Rattle.journal_image.specs.Image.{ChecksumChecksOut, payloadsOver, lowestDamaged};
+ghost use Rattle.journal_image.specs.Damage.{damageOf};
 ghost use Rattle.journal_image.specs.Strip.{stripCall, strippedOutput, strippedOutcome};
+
+// The lowest block, counted from 0, whose checksum differs, if there is one.
+pub enum Damage {
+    Nowhere,
+    Block(usize),
+}
 
 pub enum Stripped {
     // so many blocks of payload were written
@@ -46,12 +52,26 @@ fn agreeing_blocks(image: &[u8], blocks: usize) -> usize
     k
 }
 
+// The lowest damaged one of an image's whole blocks. Bytes behind the last whole block are not looked at.
+pub fn lowest_damaged(image: &[u8]) -> Damage
+    ensures { λ r. ⌜ r
+        ≡ damageOf (lowestDamaged (length (now (image .entry)) / 4096) (now (image .entry))) ⌝ }
+{
+    let blocks = image.len() / 4096;
+    let agreeing = agreeing_blocks(image, blocks);
+    if agreeing < blocks {
+        Damage::Block(agreeing)
+    } else {
+        Damage::Nowhere
+    }
+}
+
 // Writes the payloads of so many blocks, each as one run.
-fn copy_payloads(image: &[u8], out: &mut [u8], blocks: usize)
+fn copy_blocks(image: &[u8], out: &mut [u8], blocks: usize)
     requires { ⌜ 4096 * blocks ≤ length (now image) ⌝ }
     requires { ⌜ 4064 * blocks ≤ length (now out) ⌝ }
     ensures { λ _. ⌜ now (out .exit)
-        ≡ withoutChecksums blocks (now (image .entry)) ++ drop (4064 * blocks) (now (out .entry)) ⌝ }
+        ≡ payloadsOver blocks (now (image .entry)) (now (out .entry)) ⌝ }
 {
     let mut done = 0;
     while done < blocks {
@@ -61,6 +81,21 @@ fn copy_payloads(image: &[u8], out: &mut [u8], blocks: usize)
         let next = at + 4064;
         bytes::copy(&image[from..end], &mut out[at..next]);
         done += 1;
+    }
+}
+
+// Writes the payloads of an image's whole blocks, of as many as there is room for.
+pub fn copy_payloads(image: &[u8], out: &mut [u8])
+    ensures { λ _. ⌜ now (out .exit)
+        ≡ payloadsOver (min (length (now (image .entry)) / 4096) (length (now (out .entry)) / 4064))
+        (now (image .entry)) (now (out .entry)) ⌝ }
+{
+    let blocks = image.len() / 4096;
+    let room = out.len() / 4064;
+    if room < blocks {
+        copy_blocks(image, out, room);
+    } else {
+        copy_blocks(image, out, blocks);
     }
 }
 
@@ -76,10 +111,12 @@ pub fn strip(image: &[u8], out: &mut [u8]) -> Stripped
     if out.len() < 4064 * blocks {
         return Stripped::Refused(Refusal::OutputTooShort);
     }
-    let agreeing = agreeing_blocks(image, blocks);
-    if agreeing < blocks {
-        return Stripped::ChecksumDiffers(agreeing);
+    let damage = lowest_damaged(image);
+    match damage {
+        Damage::Block(block) => Stripped::ChecksumDiffers(block),
+        Damage::Nowhere => {
+            copy_blocks(image, out, blocks);
+            Stripped::Blocks(blocks)
+        }
     }
-    copy_payloads(image, out, blocks);
-    Stripped::Blocks(blocks)
 }

@@ -5,11 +5,10 @@ use mathlib.Core.Option.{Option, none, some}
 use Prim.Native.Nat.{ℕ, _+_, _*_, _/_, _%_}
 use lib.Dec.{leb, eqb}
 use lib.ListN.{length}
-use Rattle.refusals.specs.Outcome.{Outcome, gives, refuses, refusesBlock, require_else_then_}
+use Rattle.refusals.specs.Outcome.{Outcome, gives, refuses, refusesBlock, require_else_then_, undamaged_then_}
 use Rattle.journal_entry.specs.Entry.{JournalEntry, SumJournalEntries}
 use Rattle.journal_range.specs.Payload.{rangeOf}
 use Rattle.journal_image.specs.Image.{withoutChecksums, lowestDamaged}
-use Rattle.journal_image.specs.Strip.{unlessDamaged}
 use Rattle.listing.specs.Text.{entriesText, refusedText}
 use Rattle.listing.specs.Listing.{written, writtenIn, listedRefusal}
 use Rattle.listing.specs.declared.Listed.{Listed}
@@ -26,7 +25,8 @@ unfoldable pub stripped : (image : List ℕ) → Outcome ℕ
 stripped image =
     let blocks = length image / 4096 in
     require eqb (length image % 4096) 0 else 11 then
-    unlessDamaged (lowestDamaged blocks image) blocks
+    undamaged lowestDamaged blocks image then
+    gives blocks
 
 -- the last row: a range that does not read is 14
 abbrev pub unlessUnreadable : Option (List JournalEntry) → Outcome (List JournalEntry)

@@ -8,7 +8,8 @@ use Rattle.refusals.specs.declared.Refusal.the-variants.{SizeOutOfRange,
 use Rattle.refusals.specs.declared.Refusal.the-variants.{SecondTooLong, RegionFull, RingFull, EntriesPending}
 use Rattle.refusals.specs.declared.Refusal.the-variants.{NothingThere, OutputTooShort, LengthTooLarge}
 use Rattle.refusals.specs.declared.Refusal.the-variants.{ImageNotWhole, PayloadNotWhole, Unreadable}
-use Rattle.refusals.specs.declared.Refusal.the-variants.{RingUnreadable, PlaceNotValid, NoFreeze}
+use Rattle.refusals.specs.declared.Refusal.the-variants.{RingUnreadable, PlaceNotValid, NoFreeze, CardUnformed}
+use Rattle.refusals.specs.declared.Refusal.the-variants.{CardFull}
 use Rattle.refusals.specs.Refusals.{numberOf}
 
 -- the refusals at their numbers; places 0 and 12 are never looked at
@@ -17,7 +18,7 @@ rows =
     SizeOutOfRange ∷ SizeOutOfRange ∷ CountsDisagree ∷ FirstTooLong ∷ SecondTooLong ∷ RegionFull ∷ RingFull
     ∷ EntriesPending ∷ NothingThere
     ∷ OutputTooShort ∷ LengthTooLarge ∷ ImageNotWhole ∷ ImageNotWhole ∷ PayloadNotWhole ∷ Unreadable
-    ∷ RingUnreadable ∷ PlaceNotValid ∷ NoFreeze ∷ []
+    ∷ RingUnreadable ∷ PlaceNotValid ∷ NoFreeze ∷ CardUnformed ∷ CardFull ∷ []
 
 abbrev row : ℕ → Refusal
 row n = getD rows n SizeOutOfRange
@@ -39,6 +40,8 @@ row-of-number Unreadable = refl
 row-of-number RingUnreadable = refl
 row-of-number PlaceNotValid = refl
 row-of-number NoFreeze = refl
+row-of-number CardUnformed = refl
+row-of-number CardFull = refl
 
 pub number-determines : (a b : Refusal) → numberOf a ≡ numberOf b → a ≡ b
 number-determines a b same = sym (row-of-number a) ∙ ap row same ∙ row-of-number b

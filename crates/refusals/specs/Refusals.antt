@@ -6,7 +6,8 @@ use Rattle.refusals.specs.declared.Refusal.the-variants.{SizeOutOfRange,
 use Rattle.refusals.specs.declared.Refusal.the-variants.{SecondTooLong, RegionFull, RingFull, EntriesPending}
 use Rattle.refusals.specs.declared.Refusal.the-variants.{NothingThere, OutputTooShort, LengthTooLarge}
 use Rattle.refusals.specs.declared.Refusal.the-variants.{ImageNotWhole, PayloadNotWhole, Unreadable}
-use Rattle.refusals.specs.declared.Refusal.the-variants.{RingUnreadable, PlaceNotValid, NoFreeze}
+use Rattle.refusals.specs.declared.Refusal.the-variants.{RingUnreadable, PlaceNotValid, NoFreeze, CardUnformed}
+use Rattle.refusals.specs.declared.Refusal.the-variants.{CardFull}
 
 abbrev pub numberOf : Refusal → ℕ
 numberOf SizeOutOfRange = 1
@@ -25,3 +26,5 @@ numberOf Unreadable = 14
 numberOf RingUnreadable = 15
 numberOf PlaceNotValid = 16
 numberOf NoFreeze = 17
+numberOf CardUnformed = 18
+numberOf CardFull = 19

@@ -36,6 +36,10 @@ pub enum Refusal {
     PlaceNotValid,
     // 17: no freeze is remembered
     NoFreeze,
+    // 18: the card's slice is not as long as N says, or its block 0 is not of its form
+    CardUnformed,
+    // 19: no room on the card
+    CardFull,
 }
 
 // The number in the table.
@@ -59,5 +63,7 @@ pub fn number(why: Refusal) -> u64
         Refusal::RingUnreadable => 15,
         Refusal::PlaceNotValid => 16,
         Refusal::NoFreeze => 17,
+        Refusal::CardUnformed => 18,
+        Refusal::CardFull => 19,
     }
 }

@@ -1,0 +1,4 @@
+pub mod Places
+pub mod Damage
+pub mod Walks
+pub mod Ranges
