@@ -24,7 +24,7 @@ use Rattle.journal_image.specs.declared.Damage.the-variants.{Nowhere, Block}
 use Rattle.journal_ring.specs.Ring.{advance}
 use Rattle.journal_image.proofs.Payloads.{length-without}
 use Rattle.image_range.specs.InPlace.{imagePayload, lowestOfTwo}
-use Rattle.journal_image.proofs.Damaged.{damage-some, damage-none}
+use Rattle.journal_image.proofs.Damaged.{lowest-told, damage-some, damage-none}
 use Rattle.image_range.proofs.Damage.{damaged-joined}
 use Rattle.image_range.proofs.Places.{payload-is}
 use Rattle.card.specs.Card.{liveStart, liveLen, formed, liveImage, livePayload}
@@ -131,7 +131,32 @@ rows-given true true true (some i) p k d e next = impossible cc
 rows-given true true true none none k d e next = impossible cc
 rows-given true true true none (some es) k d e next = next es refl refl refl refl (gives-same e)
 
+rows-named : {C : Type 0} (r f s : Bool) (o : Option ℕ) (p : Option (List JournalEntry)) (k number block : ℕ)
+    → (require r else 1 then require f else 18 then require s else 8 then undamaged o then
+    given p else 14 then λ old. gives k) ≡ refusesBlock number block
+    → (r ≡ true → f ≡ true → o ≡ some block → C) → C
+rows-named false f s o p k number block e next = impossible cc
+rows-named true false s o p k number block e next = impossible cc
+rows-named true true false o p k number block e next = impossible cc
+rows-named true true true (some i) p k number block e next = next refl refl cc
+rows-named true true true none none k number block e next = impossible cc
+rows-named true true true none (some es) k number block e next = impossible cc
+
 module _ (n : ℕ) (card : List ℕ) where
+  -- 12's block is one of the live ones
+  pub release-below : (number block : ℕ) → releaseCall n card ≡ refusesBlock number block → block < 1024
+  unfolding releaseCall
+  release-below number block e =
+      rows-named (blocksInRange n) (formed n card) (leb 1 (liveLen card))
+      (lowestDamaged (liveLen card) (liveImage card))
+      (parsePayload (livePayload card)) (firstBlocks (livePayload card)) number block e λ range is named.
+      omega (
+        arith,
+        lowest-told (liveLen card) (liveImage card) (some block) named .0,
+        formed-told n card is .len-in,
+        range-facts n range .1,
+      )
+
   abbrev pub Comes : Outcome ℕ → List ℕ → Type 0
   Comes o after = (o ≡ releaseCall n card) × (after ≡ released n card)
 

@@ -18,6 +18,7 @@ use Rattle.disk_layout.proofs.Intervals.{range-facts}
 use Rattle.journal_entry.specs.Entry.{JournalEntry}
 use Rattle.journal_range.specs.Payload.{parsePayload, rangeOf}
 use Rattle.journal_image.specs.Image.{withoutChecksums, lowestDamaged}
+use Rattle.journal_image.proofs.Damaged.{lowest-told}
 use Rattle.journal_ring.specs.Ring.{advance}
 use Rattle.journal_ring.proofs.Runs.{copied-whole}
 use Rattle.image_range.specs.InPlace.{imagePayload, isRead}
@@ -129,6 +130,19 @@ rows-true true true true none (some es) false m e = impossible cc
 rows-true true true true none (some es) true false e = impossible cc
 rows-true true true true none (some es) true true e = (refl, refl, refl, refl, refl)
 
+rows-named : (r f w : Bool) (o : Option ℕ) (p : Option (List JournalEntry)) (l m : Bool) (number block : ℕ)
+    → (require r else 1 then require f else 18 then require w else 11 then undamaged o then
+    given p else 14 then λ new. cond l (require m else 19 then gives true) (gives false)) ≡ refusesBlock number block
+    → o ≡ some block
+rows-named false f w o p l m number block e = impossible cc
+rows-named true false w o p l m number block e = impossible cc
+rows-named true true false o p l m number block e = impossible cc
+rows-named true true true (some i) p l m number block e = cc
+rows-named true true true none none l m number block e = impossible cc
+rows-named true true true none (some es) false m number block e = impossible cc
+rows-named true true true none (some es) true false number block e = impossible cc
+rows-named true true true none (some es) true true number block e = impossible cc
+
 rows-other : (r f w : Bool) (o : Option ℕ) (p : Option (List JournalEntry)) (l m : Bool) (x card : List ℕ)
     → ((require r else 1 then require f else 18 then require w else 11 then undamaged o then given p else 14 then λ new.
     cond l (require m else 19 then gives true) (gives false)) ≡ gives true → ⊥)
@@ -162,6 +176,14 @@ module _ (n : ℕ) (card image : List ℕ) (made : ℕ) where
         (cond (ltb made k) (withBlock n card image made) (rewritten card (liveStart card) (liveLen card + k))) card
         (λ z. never (e ∙ z))),
   )
+
+  -- 12's block is one of the image's
+  pub store-below : (number block : ℕ) → storeCall n card image made ≡ refusesBlock number block → block < k
+  unfolding storeCall
+  store-below number block e =
+      lowest-told k image (some block)
+      (rows-named (blocksInRange n) (formed n card) (eqb (length image % 4096) 0) (lowestDamaged k image)
+      (parsePayload (withoutChecksums k image)) (storeLeft k made) (leb (liveLen card + k) n) number block e) .0
 
   pub record Next : Type 0 where
     pub few : n ≤ 1024
