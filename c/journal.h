@@ -22,7 +22,7 @@
 extern "C" {
 #endif
 
-#define JOURNAL_LIBRARY_VERSION "0.3.0"
+#define JOURNAL_LIBRARY_VERSION "0.4.0"
 
 /* A code's number; and of JOURNAL_CHECKSUM_DIFFERS the lowest block that differs. */
 #define JOURNAL_NUMBER(code) ((code) & 255)
@@ -46,6 +46,8 @@ extern "C" {
 #define JOURNAL_RING_UNREADABLE 15    /* the ring's pending bytes are not the counted entries and clones */
 #define JOURNAL_PLACE_NOT_VALID 16    /* interval or location not valid */
 #define JOURNAL_NO_FREEZE 17          /* no freeze is remembered */
+#define JOURNAL_CARD_UNFORMED 18      /* a card of another length, or whose block 0 is not of its form */
+#define JOURNAL_CARD_FULL 19          /* no room on the card for the image's blocks */
 
 /* Sizes and limits. */
 #define JOURNAL_BLOCK 4096            /* bytes of a block of an image: 32 of checksum, then */
@@ -105,8 +107,8 @@ uint64_t journal_thaw(uint64_t *words, size_t words_len);
 /* Write the frozen list's image to the start of `out`, and empty the list: 2, 8, 15, 9. The ring is exactly r bytes,
  * `out` at least JOURNAL_BLOCK for each block: those at JOURNAL_WORD_FROZEN_BLOCKS before the call, by which
  * JOURNAL_WORD_WRITTEN grows.
- * Until it is stored, the image in `out` is the only copy of these entries. Store it and sync, and only then store
- * which blocks are live: a power cut then leaves the blocks before it, or those and the image. */
+ * Until it is stored, the image in `out` is the only copy of these entries. journal_card_store stores it so that a
+ * power cut leaves the blocks before it, or those and the image. */
 uint64_t journal_package_frozen(uint64_t *words, size_t words_len, const uint8_t *ring, size_t ring_len,
     uint8_t *out, size_t out_len);
 
@@ -193,6 +195,44 @@ uint64_t journal_place_overlap(uint64_t n, uint64_t a_start, uint64_t a_len, uin
 /* The location of an interval that does not wrap: address, length; and the interval of a location: start, length. */
 uint64_t journal_place_location(uint64_t n, uint64_t start, uint64_t len, uint64_t *answer, size_t answer_len);
 uint64_t journal_place_interval(uint64_t n, uint64_t addr, uint64_t len, uint64_t *answer, size_t answer_len);
+
+/* The region on the unit's card: a slice of (2 + n) x JOURNAL_BLOCK bytes. Block 0 says which blocks of the region are
+ * live, block 1 is neither read nor written, and the region's n blocks follow, each at its address as a place.
+ * Block 0 is a block as those of an image. Its payload is the 32-bit number 10, the 16-bit kind 1, the 32-bit start and
+ * length of the live interval, lowest byte first, and zeros. 18 is given for a slice of another length and for a block
+ * 0 that is not exactly that with start < n and length <= n.
+ * A call writes one block of the slice, or none, and the caller brings that block to the medium, whole or not at all. A
+ * block that 12 names is counted from the live start, or is one of the image. */
+#define JOURNAL_CARD_START 38         /* place in the card of the live interval's start, */
+#define JOURNAL_CARD_LENGTH 42        /* and of its length */
+
+/* Block 0 of a card without live blocks: 1; 18 for the slice's length alone. */
+uint64_t journal_card_format(uint64_t n, uint8_t *card, size_t card_len);
+
+/* The live blocks' payload, in order, to the start of `out`, and their number: 1, 18, 9, 12; 9 where there is no word.
+ * `out` is at least JOURNAL_PAYLOAD bytes for each live block. What is found goes to journal_set_front, with an empty
+ * back, or to both, split at a block; whether it reads, the load says. */
+uint64_t journal_card_find(uint64_t n, const uint8_t *card, size_t card_len, uint8_t *out, size_t out_len,
+    uint64_t *answer, size_t answer_len);
+
+/* Make the next block store of an image, of which `made` are made: 1, 18; 11, 12, 14 for the image; 19 where a store is
+ * left and the live blocks and the image's are more than n; 9 where there is no word. The answer is 1, or 0 where no
+ * store is left: of an image of k blocks k + 1 are to make, of none none.
+ * Told 0, 1, 2, .. until the answer is 0, the calls put the image's blocks behind the live ones, and then block 0.
+ * After each the caller brings the one stored block to the medium and syncs, before the next call. Which it is: block 0
+ * of the slice for made = k; else that behind the interval of start and length + made (journal_place_next_start, and
+ * journal_place_of_block for its address), as they stand at JOURNAL_CARD_START and JOURNAL_CARD_LENGTH.
+ * A cut between two stores leaves the live blocks as they were or, from the last store on, those and the image's,
+ * where all calls are told the same image and nobody else writes the slice. After a cut begin at 0 again, with the
+ * next image. Each number is told once: told k twice, with room for it, block 0 has k more live blocks that nobody
+ * stored. */
+uint64_t journal_card_store(uint64_t n, uint8_t *card, size_t card_len, const uint8_t *image, size_t image_len,
+    uint64_t made, uint64_t *answer, size_t answer_len);
+
+/* Drop the first batch from the live interval, and answer with its blocks: 1, 18, 8, 12, 14; 9 where there is no word.
+ * The whole live range is read. Block 0 alone is written: bring it to the medium and sync before those blocks are used
+ * again, and tell journal_update_written the length that is left. */
+uint64_t journal_card_release(uint64_t n, uint8_t *card, size_t card_len, uint64_t *answer, size_t answer_len);
 
 #ifdef __cplusplus
 }

@@ -1,8 +1,17 @@
-//! A call on the record, or strip, as a value: it is made of the library, of the model or of the plain
-//! Rust implementation.
+//! A call on the record or on a card, or strip, as a value: it is made of the library, of the model or of
+//! the plain Rust implementation.
 use crate::memory::{Lent, Memory, Slices};
-use crate::model::{block, journalist, plain};
+use crate::model::plain;
 use nungakes::calls;
+
+/// The model's calls by the library's names.
+mod model {
+    pub use crate::model::block::strip;
+    pub use crate::model::card::{
+        find as card_find, format as card_format, release as card_release, store as card_store,
+    };
+    pub use crate::model::journalist::*;
+}
 
 #[derive(Clone, Copy, Debug, PartialEq, Eq, PartialOrd, Ord)]
 pub enum Call {
@@ -37,6 +46,23 @@ pub enum Call {
     IsReplayEmpty,
     HasFront,
     HasBack,
+    /// The card is written.
+    CardFormat {
+        n: u64,
+    },
+    /// The card is read, and its live payload is written.
+    CardFind {
+        n: u64,
+    },
+    /// The image is read, and the card is written.
+    CardStore {
+        n: u64,
+        made: u64,
+    },
+    /// The card is written.
+    CardRelease {
+        n: u64,
+    },
 }
 
 use Call::*;
@@ -63,7 +89,7 @@ pub const QUERIES: [Call; 7] =
 
 /// Makes a call by the functions of a module.
 macro_rules! made {
-    ($call:expr, $lent:expr, $of:path, $strip:path) => {{
+    ($call:expr, $lent:expr, $of:path) => {{
         use $of as of;
         let Slices { read: [a, b], written, words, answer } = $lent;
         match $call {
@@ -76,7 +102,7 @@ macro_rules! made {
             PackageInMemory => of::package_in_memory(words, a, written),
             SetWritten(len) => of::set_written(words, len),
             UpdateWritten(len) => of::update_written(words, len),
-            Strip => $strip(a, written),
+            Strip => of::strip(a, written),
             SetFront => of::set_front(words, a, written),
             SetBack => of::set_back(words, a, written),
             Load => of::load(words, a, b, written),
@@ -89,21 +115,25 @@ macro_rules! made {
             IsReplayEmpty => of::is_replay_empty(words, answer),
             HasFront => of::has_front(words, answer),
             HasBack => of::has_back(words, answer),
+            CardFormat { n } => of::card_format(n, written),
+            CardFind { n } => of::card_find(n, a, written, answer),
+            CardStore { n, made } => of::card_store(n, written, a, made, answer),
+            CardRelease { n } => of::card_release(n, written, answer),
         }
     }};
 }
 
 impl Call {
     pub fn of_library(self, lent: Slices) -> u64 {
-        made!(self, lent, calls, calls::strip)
+        made!(self, lent, calls)
     }
 
     pub fn of_model(self, lent: Slices) -> u64 {
-        made!(self, lent, journalist, block::strip)
+        made!(self, lent, model)
     }
 
     pub fn of_plain(self, lent: Slices) -> u64 {
-        made!(self, lent, plain, plain::strip)
+        made!(self, lent, plain)
     }
 
     /// The numbers that it may refuse with, in the order of its tests. (Nothing pending forbids to
@@ -126,6 +156,10 @@ impl Call {
             Pop => &[2, 8, 14],
             HasFrozen | HasInMemory | GetWritten | WaitingClones | IsReplayEmpty | HasFront
             | HasBack => &[2, 9],
+            CardFormat { .. } => &[1, 18],
+            CardFind { .. } => &[1, 18, 9, 12],
+            CardStore { .. } => &[1, 18, 11, 12, 14, 19, 9],
+            CardRelease { .. } => &[1, 18, 8, 12, 14, 9],
         }
     }
 

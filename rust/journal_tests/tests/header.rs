@@ -33,6 +33,8 @@ const REFUSALS: &[(&str, Refusal)] = &[
     ("RING_UNREADABLE", Refusal::RingUnreadable),
     ("PLACE_NOT_VALID", Refusal::PlaceNotValid),
     ("NO_FREEZE", Refusal::NoFreeze),
+    ("CARD_UNFORMED", Refusal::CardUnformed),
+    ("CARD_FULL", Refusal::CardFull),
 ];
 
 const PLACES: &[(&str, usize)] = &[
@@ -69,6 +71,8 @@ const SIZES: &[(&str, u64)] = &[
     ("FIRST_LIMIT", nungakes::FIRST_LIMIT as u64),
     ("VALUE_LIMIT", nungakes::VALUE_LIMIT as u64),
     ("TO_LIMIT", nungakes::TO_LIMIT as u64),
+    ("CARD_START", nungakes::CARD_START as u64),
+    ("CARD_LENGTH", nungakes::CARD_LENGTH as u64),
 ];
 
 /// The answer of top is an array in C, and a struct in Rust.
@@ -110,7 +114,7 @@ fn codes() {
     let named = Refusal::of_code(12 + 256 * 300);
     assert_eq!(named, Some(Refusal::ChecksumDiffers { block: 300 }));
     assert_eq!(named.unwrap().to_string(), "the checksum of block 300 differs");
-    for code in [0, 18, 255, 256, 1 + 256, 11 + 256, 13 + 256, u64::MAX] {
+    for code in [0, 20, 255, 256, 1 + 256, 11 + 256, 13 + 256, u64::MAX] {
         assert_eq!(Refusal::of_code(code), None, "{code}");
     }
 }

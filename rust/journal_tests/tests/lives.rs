@@ -1,9 +1,10 @@
-//! A unit's whole life: images are stored cyclically in a region, the oldest are dropped, and the power
-//! goes at any place. What is replayed then is what the live blocks handed out, in order, nothing more.
+//! A unit's whole life: images are stored cyclically on its card, the oldest batches are dropped, and the
+//! power goes at any place, also between the stores of an image. What is replayed then is what the live
+//! blocks handed out, in order, nothing more.
 use journal_tests::model::block::{BLOCK, PAYLOAD};
 use journal_tests::model::writing::Entry;
 use journal_tests::random::{times, Random};
-use nungakes::{strip, Entry as Read, Journal, Refusal};
+use nungakes::{card, Entry as Read, Journal, Refusal, CARD_START};
 use std::collections::VecDeque;
 use std::mem::take;
 
@@ -13,48 +14,50 @@ struct Batch {
     blocks: usize,
 }
 
-/// What a power cut spares: the region, and which of its blocks are live, oldest batch first.
+/// What a power cut spares: the card. On it these batches are live, the oldest first.
 struct Card {
-    region: Vec<u8>,
-    start: usize,
+    bytes: Vec<u8>,
     live: VecDeque<Batch>,
 }
 
 impl Card {
+    /// One with anything on it, then formatted.
+    fn new(n: usize, random: &mut Random) -> Self {
+        let mut bytes = random.bytes(BLOCK * (2 + n));
+        assert_eq!(card::find(n, &bytes, &mut []), Err(Refusal::CardUnformed));
+        card::format(n, &mut bytes).unwrap();
+        Card { bytes, live: VecDeque::new() }
+    }
+
     fn blocks(&self) -> usize {
-        self.region.len() / BLOCK
+        self.bytes.len() / BLOCK - 2
     }
 
     fn live_blocks(&self) -> usize {
         self.live.iter().map(|batch| batch.blocks).sum()
     }
 
-    /// Puts an image behind the live blocks. It is not live by that.
-    fn store(&mut self, image: &[u8]) {
-        let next = self.start + self.live_blocks();
-        for (k, block) in image.chunks(BLOCK).enumerate() {
-            let at = BLOCK * ((next + k) % self.blocks());
-            self.region[at..at + BLOCK].copy_from_slice(block);
-        }
+    fn start(&self) -> usize {
+        u32::from_le_bytes(*self.bytes[CARD_START..].first_chunk().unwrap()) as usize
+    }
+
+    /// Tells so many numbers, or up to the one at which no store is left, and says whether the last was made.
+    fn store(&mut self, image: &[u8], stores: usize) -> bool {
+        let n = self.blocks();
+        let mut store = |made| card::store(n, &mut self.bytes, image, made).unwrap();
+        let made = (0..stores).take_while(|made| store(*made)).count();
+        made > image.len() / BLOCK
     }
 
     fn drop_oldest(&mut self) {
-        if let Some(oldest) = self.live.pop_front() {
-            self.start = (self.start + oldest.blocks) % self.blocks();
-        }
-    }
-
-    /// The live blocks up to the region's end, and those from block 0 on.
-    fn sides(&self) -> [&[u8]; 2] {
-        let end = self.start + self.live_blocks();
-        let front = self.start..end.min(self.blocks());
-        let back = end.saturating_sub(self.blocks());
-        [&self.region[BLOCK * front.start..BLOCK * front.end], &self.region[..BLOCK * back]]
+        let oldest = self.live.pop_front().map(|batch| batch.blocks);
+        let released = card::release(self.blocks(), &mut self.bytes);
+        assert_eq!(released, oldest.ok_or(Refusal::NothingThere));
     }
 
     /// Whether a batch starts before the region's end and ends behind it.
     fn crosses(&self) -> bool {
-        let mut at = self.start;
+        let mut at = self.start();
         self.live.iter().any(|batch| {
             at += batch.blocks;
             at - batch.blocks < self.blocks() && self.blocks() < at
@@ -71,21 +74,18 @@ struct Seen {
     dropped: usize,
     full: usize,
     thawed: usize,
-    not_live_yet: usize,
+    cut: usize,
+    just_live: usize,
 }
 
-/// A new record that has replayed the card.
-fn recover(card: &Card, r: usize, seen: &mut Seen) -> Journal {
+/// A new record that has replayed what was found, so many blocks of it as front.
+fn replay(card: &Card, r: usize, found: &[u8], front: usize) -> Journal {
     let mut journal = Journal::open(card.blocks(), r).unwrap();
-    let [front, back] = card.sides().map(|side| {
-        let mut payload = vec![0; PAYLOAD * (side.len() / BLOCK)];
-        strip(side, &mut payload).unwrap();
-        payload
-    });
-    let [mut front_lent, mut back_lent] = [&front, &back].map(|side| vec![0xA5; side.len() + 3]);
-    let mut replay = vec![0xA5; front.len() + back.len()];
-    journal.set_front(&front, &mut front_lent).unwrap();
-    journal.set_back(&back, &mut back_lent).unwrap();
+    let (front, back) = found.split_at(PAYLOAD * front);
+    let [mut front_lent, mut back_lent] = [front, back].map(|side| vec![0xA5; side.len() + 3]);
+    let mut replay = vec![0xA5; found.len()];
+    journal.set_front(front, &mut front_lent).unwrap();
+    journal.set_back(back, &mut back_lent).unwrap();
     journal.load(&front_lent, &back_lent, &mut replay).unwrap();
     for Entry { is_clone, first, second } in card.live.iter().flat_map(|batch| &batch.entries) {
         let wanted = if *is_clone {
@@ -95,11 +95,23 @@ fn recover(card: &Card, r: usize, seen: &mut Seen) -> Journal {
         };
         assert_eq!(journal.top(&replay).unwrap().entry(&replay), wanted);
         journal.pop(&replay).unwrap();
-        seen.replayed += 1;
     }
     assert_eq!(journal.top(&replay), Err(Refusal::NothingThere));
     journal.set_written(card.live_blocks()).unwrap();
-    seen.wrapped += usize::from(!back.is_empty());
+    journal
+}
+
+/// The same wherever what was found is split.
+fn recover(card: &Card, r: usize, seen: &mut Seen) -> Journal {
+    let blocks = card.live_blocks();
+    let mut found = vec![0; PAYLOAD * blocks];
+    assert_eq!(card::find(card.blocks(), &card.bytes, &mut found), Ok(blocks));
+    let journal = replay(card, r, &found, blocks);
+    for front in 0..blocks {
+        assert_eq!(replay(card, r, &found, front), journal);
+    }
+    seen.replayed += card.live.iter().map(|batch| batch.entries.len()).sum::<usize>();
+    seen.wrapped += usize::from(card.start() + blocks > card.blocks());
     seen.crossed += usize::from(card.crosses());
     journal
 }
@@ -177,12 +189,17 @@ fn live(card: &mut Card, r: usize, most: usize, random: &mut Random, seen: &mut 
                 let Some(batch) = unit.package(&mut out) else {
                     continue;
                 };
-                card.store(&out[..BLOCK * batch.blocks]);
-                if random.below(10) == 0 {
-                    seen.not_live_yet += 1;
+                let cut = (random.below(5) == 0).then(|| random.below(batch.blocks + 2));
+                let image = &out[..BLOCK * batch.blocks];
+                if card.store(image, cut.unwrap_or(batch.blocks + 2)) {
+                    card.live.push_back(batch);
+                    seen.just_live += usize::from(cut.is_some());
+                } else {
+                    seen.cut += 1;
+                }
+                if cut.is_some() {
                     return;
                 }
-                card.live.push_back(batch);
             }
             _ => {
                 seen.dropped += usize::from(!card.live.is_empty());
@@ -199,8 +216,7 @@ fn lives_of_units() {
     let mut seen = Seen::default();
     for unit in 0..300 * times() {
         let n = 1 + unit % 12;
-        let region = random.bytes(BLOCK * n);
-        let mut card = Card { region, start: 0, live: VecDeque::new() };
+        let mut card = Card::new(n, random);
         let r = random.one_of(&[1_000, 10_000, PAYLOAD * n]);
         for _ in 0..25 {
             let most = random.one_of(&[3, 300, 1_024, 1_024]);
@@ -208,8 +224,8 @@ fn lives_of_units() {
         }
     }
     println!("{seen:?}");
-    let Seen { replayed, wrapped, crossed, dropped, full, thawed, not_live_yet } = seen;
+    let Seen { replayed, wrapped, crossed, dropped, full, thawed, cut, just_live } = seen;
     assert!(replayed > 50_000 && wrapped > 500 && crossed > 100, "{seen:?}");
     assert!(dropped > 1_000 && full > 1_000 && thawed > 1_000, "{seen:?}");
-    assert!(not_live_yet > 100, "{seen:?}");
+    assert!(cut > 100 && just_live > 100, "{seen:?}");
 }

@@ -5,7 +5,9 @@ use journal_tests::model::record::WORDS;
 use journal_tests::model::writing;
 use journal_tests::random::Random;
 use nungakes::places::{self, Interval, Location};
-use nungakes::{calls, Entry, Journal, Kind, Piece, Refusal, Top, Totals};
+use nungakes::{
+    calls, card, Entry, Journal, Kind, Piece, Refusal, Top, Totals, CARD_LENGTH, CARD_START,
+};
 
 /// A record goes to words and back, whatever they are; damaged ones are refused by each call.
 #[test]
@@ -61,6 +63,38 @@ fn images() {
     assert_eq!(nungakes::range(&range, &[]), Ok(Totals { entries: 1, bytes: 16 }));
     assert_eq!(nungakes::range(&range, &range), Ok(Totals { entries: 2, bytes: 32 }));
     assert_eq!(nungakes::range(&range[1..], &[]), Err(Refusal::Unreadable));
+}
+
+/// From an empty card to one on which a batch was stored, found and released; and each of the refusals.
+#[test]
+fn on_a_card() {
+    let whole = writing::batch(&writing::weighing(&mut Random(5), 5_000), 0);
+    let image = writing::image(&whole);
+    let mut unit = vec![0; 5 * BLOCK];
+    let mut out = vec![7; 3 * PAYLOAD];
+    assert_eq!(card::find(3, &unit, &mut out), Err(Refusal::CardUnformed));
+    assert_eq!(card::format(2, &mut unit), Err(Refusal::CardUnformed));
+    assert_eq!(card::format(0, &mut unit), Err(Refusal::SizeOutOfRange));
+    assert_eq!(card::format(3, &mut unit), Ok(()));
+    assert_eq!(card::release(3, &mut unit), Err(Refusal::NothingThere));
+    assert_eq!(card::find(3, &unit, &mut []), Ok(0));
+    let told = [0, 1, 2, 3].map(|made| card::store(3, &mut unit, &image, made));
+    assert_eq!(told, [Ok(true), Ok(true), Ok(true), Ok(false)]);
+    assert_eq!(unit[CARD_START..CARD_START + 8], [0, 0, 0, 0, 2, 0, 0, 0]);
+    assert_eq!(card::store(3, &mut unit, &image, 0), Err(Refusal::CardFull));
+    assert_eq!(card::store(3, &mut unit, &image[1..], 0), Err(Refusal::ImageNotWhole));
+    assert_eq!(card::store(3, &mut unit, &image[..BLOCK], 0), Err(Refusal::Unreadable));
+    assert_eq!(card::find(3, &unit, &mut out[..PAYLOAD]), Err(Refusal::OutputTooShort));
+    assert_eq!(card::find(3, &unit, &mut out), Ok(2));
+    assert!(out[..2 * PAYLOAD] == whole && out[2 * PAYLOAD..] == [7; PAYLOAD]);
+
+    unit[3 * BLOCK + 9] ^= 1;
+    let differs = Err(Refusal::ChecksumDiffers { block: 1 });
+    assert_eq!([card::find(3, &unit, &mut out), card::release(3, &mut unit)], [differs; 2]);
+    unit[3 * BLOCK + 9] ^= 1;
+    assert_eq!(card::release(3, &mut unit), Ok(2));
+    assert_eq!(unit[CARD_LENGTH - 4..CARD_LENGTH + 4], [2, 0, 0, 0, 0, 0, 0, 0]);
+    assert_eq!(card::find(3, &unit, &mut out), Ok(0));
 }
 
 /// The words of a call's answer, or its refusal.

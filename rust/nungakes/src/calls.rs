@@ -25,8 +25,8 @@ impl<T> Lent for &mut [T] {
     }
 }
 
-/// Functions that take slices, then numbers, or numbers and then an answer. C gets a slice as its pointer and its
-/// length.
+/// Functions that take slices, then numbers; or numbers, then an answer; or a number, then slices, with another number
+/// before an answer. C gets a slice as its pointer and its length.
 macro_rules! over_slices {
     ($($name:ident = $raw:ident($($slice:ident: $kind:ty),+ $(; $($number:ident),+)?);)+) => {$(
         pub fn $name($(mut $slice: $kind,)+ $($($number: u64),+)?) -> u64 {
@@ -36,6 +36,19 @@ macro_rules! over_slices {
     ($($name:ident = $raw:ident($($number:ident),+);)+) => {$(
         pub fn $name($($number: u64,)+ answer: &mut [u64]) -> u64 {
             unsafe { raw::$raw($($number,)+ answer.as_mut_ptr(), answer.len()) }
+        }
+    )+};
+    ($($name:ident = $raw:ident(
+        $n:ident; $($slice:ident: $kind:ty),+ $(; $number:ident; $answer:ident: $words:ty)?
+    );)+) => {$(
+        pub fn $name($n: u64, $(mut $slice: $kind,)+ $($number: u64, mut $answer: $words)?) -> u64 {
+            unsafe {
+                raw::$raw(
+                    $n,
+                    $($slice.pointer(), $slice.len(),)+
+                    $($number, $answer.pointer(), $answer.len())?
+                )
+            }
         }
     )+};
 }
@@ -87,4 +100,12 @@ over_slices! {
     place_overlap = journal_place_overlap(n, a_start, a_len, b_start, b_len);
     place_location = journal_place_location(n, start, len);
     place_interval = journal_place_interval(n, addr, len);
+}
+
+// The region on the unit's card.
+over_slices! {
+    card_format = journal_card_format(n; card: &mut [u8]);
+    card_find = journal_card_find(n; card: &[u8], out: &mut [u8], answer: &mut [u64]);
+    card_store = journal_card_store(n; card: &mut [u8], image: &[u8]; made; answer: &mut [u64]);
+    card_release = journal_card_release(n; card: &mut [u8], answer: &mut [u64]);
 }

@@ -113,8 +113,8 @@ impl Journal {
         answered(calls::thaw(&mut self.words))
     }
 
-    /// The frozen list's image to the start of `out`, and its blocks: 2, 8, 15, 9. Until it is stored, `out` is the
-    /// only copy of these entries.
+    /// The frozen list's image to the start of `out`, and its blocks: 2, 8, 15, 9. Until it is stored
+    /// ([`card::store`](crate::card::store)), `out` is the only copy of these entries.
     pub fn package_frozen(&mut self, ring: &[u8], out: &mut [u8]) -> Result<usize, Refusal> {
         self.package(calls::package_frozen, ring, out)
     }

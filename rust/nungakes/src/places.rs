@@ -1,5 +1,5 @@
 //! Places in a region of `n` blocks. Each call may refuse with 1 and 16.
-use crate::refusal::answered;
+use crate::refusal::words;
 use crate::{calls, Refusal};
 
 /// So many blocks from a block on; behind block `n - 1` comes block 0.
@@ -14,13 +14,6 @@ pub struct Interval {
 pub struct Location {
     pub address: u64,
     pub len: u64,
-}
-
-/// The words that a call answers with.
-fn words<const K: usize>(call: impl FnOnce(&mut [u64]) -> u64) -> Result<[u64; K], Refusal> {
-    let mut answer = [0; K];
-    answered(call(&mut answer))?;
-    Ok(answer)
 }
 
 fn part([present, start, len]: [u64; 3]) -> Option<Interval> {

@@ -6,6 +6,33 @@
 //! does not matter. [`calls`](crate::calls) has the same over slices.
 
 extern "C" {
+    pub fn journal_card_format(n: u64, card: *mut u8, card_len: usize) -> u64;
+    pub fn journal_card_find(
+        n: u64,
+        card: *const u8,
+        card_len: usize,
+        out: *mut u8,
+        out_len: usize,
+        answer: *mut u64,
+        answer_len: usize,
+    ) -> u64;
+    pub fn journal_card_store(
+        n: u64,
+        card: *mut u8,
+        card_len: usize,
+        image: *const u8,
+        image_len: usize,
+        made: u64,
+        answer: *mut u64,
+        answer_len: usize,
+    ) -> u64;
+    pub fn journal_card_release(
+        n: u64,
+        card: *mut u8,
+        card_len: usize,
+        answer: *mut u64,
+        answer_len: usize,
+    ) -> u64;
     pub fn journal_crc32c(s: *const u8, s_len: usize) -> u32;
     pub fn journal_checksum(s: *const u8, s_len: usize, out: *mut u8, out_len: usize) -> u64;
     pub fn journal_strip(image: *const u8, image_len: usize, out: *mut u8, out_len: usize) -> u64;

@@ -25,6 +25,8 @@ pub enum Refusal {
     RingUnreadable,
     PlaceNotValid,
     NoFreeze,
+    CardUnformed,
+    CardFull,
 }
 
 use Refusal::*;
@@ -50,6 +52,8 @@ impl Refusal {
             RingUnreadable => 15,
             PlaceNotValid => 16,
             NoFreeze => 17,
+            CardUnformed => 18,
+            CardFull => 19,
         }
     }
 
@@ -73,6 +77,8 @@ impl Refusal {
             15 => RingUnreadable,
             16 => PlaceNotValid,
             17 => NoFreeze,
+            18 => CardUnformed,
+            19 => CardFull,
             _ => return None,
         })
     }
@@ -98,6 +104,8 @@ impl fmt::Display for Refusal {
             RingUnreadable => "the ring's pending bytes are not the counted entries and clones",
             PlaceNotValid => "the interval or location is not valid",
             NoFreeze => "no freeze is remembered",
+            CardUnformed => "the card is of another length, or its block 0 is not of its form",
+            CardFull => "no room on the card for the image's blocks",
         };
         f.write_str(text)
     }
@@ -112,4 +120,13 @@ pub(crate) fn answered(code: u64) -> Result<(), Refusal> {
     }
     let unknown = "a code that this crate does not know: the archive is of another version";
     Err(Refusal::of_code(code).expect(unknown))
+}
+
+/// The words that a call answers with.
+pub(crate) fn words<const K: usize>(
+    call: impl FnOnce(&mut [u64]) -> u64,
+) -> Result<[u64; K], Refusal> {
+    let mut answer = [0; K];
+    answered(call(&mut answer))?;
+    Ok(answer)
 }

@@ -18,6 +18,9 @@ pub const FIRST_LIMIT: usize = 512;
 pub const VALUE_LIMIT: usize = 1024;
 /// The most bytes of a clone's to.
 pub const TO_LIMIT: usize = 512;
+/// Where in a card the live interval's start stands, and where its length: 32 bits each, lowest byte first.
+pub const CARD_START: usize = 38;
+pub const CARD_LENGTH: usize = 42;
 
 /// Where each of a record's words stands.
 pub mod word {

@@ -42,6 +42,7 @@ pub fn strip(image: &[u8], out: &mut [u8]) -> u64 {
     0
 }
 
-fn agrees(block: &[u8; BLOCK]) -> bool {
+/// Whether the head is that of the payload.
+pub fn agrees(block: &[u8; BLOCK]) -> bool {
     block[..HEAD] == head(crc::slicing_by_8(&block[HEAD..]))
 }

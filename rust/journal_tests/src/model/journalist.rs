@@ -6,11 +6,11 @@ use super::reading::{CLONED, FIRST, INSERTED};
 use super::record::{List, Record, LAYOUT, LONGEST_RING, MOST_BLOCKS, WORDS};
 use super::writing::{self, Entry};
 
-fn require(condition: bool, number: u64) -> Result<(), u64> {
+pub(super) fn require(condition: bool, number: u64) -> Result<(), u64> {
     condition.then_some(()).ok_or(number)
 }
 
-fn code(result: Result<(), u64>) -> u64 {
+pub(super) fn code(result: Result<(), u64>) -> u64 {
     result.err().unwrap_or(0)
 }
 

@@ -25,12 +25,6 @@ pub fn range(front: &[u8], back: &[u8], totals: &mut [u64]) -> u64 {
     0
 }
 
-/// Front and back as one: a place is counted from front's start.
-pub struct Joined<'a> {
-    pub front: &'a [u8],
-    pub back: &'a [u8],
-}
-
 /// A batch: how many entries, where their forms start and end, and where its blocks end.
 pub struct Batch {
     pub entries: u32,
@@ -39,17 +33,19 @@ pub struct Batch {
     pub end: usize,
 }
 
-impl Joined<'_> {
-    pub fn len(&self) -> usize {
-        self.front.len() + self.back.len()
-    }
+/// Bytes that are read as one, wherever they lie: a place is counted from their start.
+pub trait Range {
+    fn len(&self) -> usize;
 
-    pub fn is_empty(&self) -> bool {
+    /// The word at `at`, lowest byte first, if it ends by `end`.
+    fn word(&self, at: usize, end: usize) -> Option<u32>;
+
+    fn is_empty(&self) -> bool {
         self.len() == 0
     }
 
     /// How many entries there are in all batches, and how many bytes of wire forms.
-    pub fn read(&self) -> Option<[u64; 2]> {
+    fn read(&self) -> Option<[u64; 2]> {
         if !self.len().is_multiple_of(PAYLOAD) {
             return None;
         }
@@ -65,7 +61,7 @@ impl Joined<'_> {
     }
 
     /// The batch at `start`.
-    pub fn batch(&self, start: usize) -> Option<Batch> {
+    fn batch(&self, start: usize) -> Option<Batch> {
         let entries = self.word(start, self.len())?;
         let blocks = self.word(start + 4, self.len())?;
         let end = start + PAYLOAD * blocks as usize;
@@ -79,7 +75,7 @@ impl Joined<'_> {
 
     /// The place behind so many entries from `at` on, if they are that and end by `end`, and the
     /// clones among them.
-    pub fn counted(&self, mut at: usize, end: usize, entries: usize) -> Option<(usize, usize)> {
+    fn counted(&self, mut at: usize, end: usize, entries: usize) -> Option<(usize, usize)> {
         let mut clones = 0;
         for _ in 0..entries {
             let (behind, is_clone) = self.after_entry(at, end)?;
@@ -102,8 +98,19 @@ impl Joined<'_> {
         let after = at + 4 + second as usize;
         (second <= limit && after <= end).then_some((after, is_clone))
     }
+}
 
-    /// The word at `at`, lowest byte first, if it ends by `end`.
+/// Front and back.
+pub struct Joined<'a> {
+    pub front: &'a [u8],
+    pub back: &'a [u8],
+}
+
+impl Range for Joined<'_> {
+    fn len(&self) -> usize {
+        self.front.len() + self.back.len()
+    }
+
     fn word(&self, at: usize, end: usize) -> Option<u32> {
         if at + 4 > end {
             return None;
@@ -118,7 +125,9 @@ impl Joined<'_> {
         };
         Some(u32::from_le_bytes(word))
     }
+}
 
+impl Joined<'_> {
     /// The bytes from `at` to `end`, in two parts.
     pub fn parts(&self, at: usize, end: usize) -> [&[u8]; 2] {
         let n = self.front.len();

@@ -14,13 +14,13 @@ pub fn run(table: &mut Table) {
 }
 
 /// What makes the condition of a number hold.
-type Fault = fn(&mut Case);
+pub type Fault = fn(&mut Case);
 
 impl Table {
     /// Each number of the call's row is made to hold in each of these ways, together with any of the
     /// others in any of theirs: the first of its row is given. The ways are tried in the order of
     /// `faults`, so that a later one may look at what earlier ones did.
-    fn in_order(&mut self, base: Case, faults: &[(u64, &[Fault])]) {
+    pub fn in_order(&mut self, base: Case, faults: &[(u64, &[Fault])]) {
         let row = base.call.numbers();
         let numbers: BTreeSet<u64> = faults.iter().map(|(code, _)| code % 256).collect();
         assert!(numbers.iter().eq(&row.iter().copied().collect::<BTreeSet<u64>>()), "{row:?}");
@@ -71,11 +71,11 @@ fn another_layout(case: &mut Case) {
     case.lent.words[0] = LAYOUT + 1;
 }
 
-fn written_short(case: &mut Case) {
+pub fn written_short(case: &mut Case) {
     case.lent.written.pop();
 }
 
-fn nothing_written(case: &mut Case) {
+pub fn nothing_written(case: &mut Case) {
     case.lent.written.clear();
 }
 
@@ -83,15 +83,15 @@ fn written_long(case: &mut Case) {
     case.lent.written.push(0);
 }
 
-fn read_short(case: &mut Case) {
+pub fn read_short(case: &mut Case) {
     case.lent.read[0].pop();
 }
 
-fn read_long(case: &mut Case) {
+pub fn read_long(case: &mut Case) {
     case.lent.read[0].push(0);
 }
 
-fn no_answer(case: &mut Case) {
+pub fn no_answer(case: &mut Case) {
     case.lent.answer.pop();
 }
 

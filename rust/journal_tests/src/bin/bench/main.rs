@@ -5,6 +5,7 @@
 //! each way it prints the nanoseconds for a call and for a byte and the MB/s, by its best round, and
 //! how many times as long as this way Rattle takes, by the best and by the middle rounds.
 mod appends;
+mod cards;
 mod checksums;
 mod pieces;
 mod small;
@@ -122,18 +123,16 @@ fn main() {
     let sizes = [1, 4, 16, 64, 256, 1_024].map(|blocks| Pieces::new(blocks, &[3, 40, 1_024]));
     let tiny = Pieces::new(1_024, &[3]);
     let small = small::Small::new();
+    let cards = [1, 16, 512].map(cards::Cards::new);
     let mut cases = checksums::cases(&buffer);
     cases.extend(appends.iter().map(|appends| appends.case()));
     for of in pieces::EACH_SIZE {
         cases.extend(sizes.iter().map(of));
     }
-    cases.extend(
-        pieces::EACH_SIZE
-            .map(|of| of(&tiny))
-            .into_iter()
-            .map(|case| Case { name: format!("tiny {}", case.name), ..case }),
-    );
+    let of_tiny = pieces::EACH_SIZE.map(|of| of(&tiny)).into_iter();
+    cases.extend(of_tiny.map(|case| Case { name: format!("tiny {}", case.name), ..case }));
     cases.extend(small.cases());
+    cases.extend(cards.iter().flat_map(|cards| cards.cases()));
 
     println!("                                         best                      rattle / this");
     println!("case                      way         ns/call  ns/byte    MB/s     best  middle");

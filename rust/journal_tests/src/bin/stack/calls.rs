@@ -1,9 +1,11 @@
 //! The calls that are measured: each exported function, at little and at very much.
 use journal_tests::model::block::{BLOCK, PAYLOAD};
+use journal_tests::model::card::with_live;
 use journal_tests::model::entries;
 use journal_tests::model::writing::{self, Entry};
 use journal_tests::random::Random;
 use nungakes::{raw, LAYOUT, WORDS};
+use std::mem::take;
 
 pub struct Row {
     pub name: &'static str,
@@ -64,6 +66,8 @@ pub fn each(measure: &mut dyn FnMut(Row)) {
     replays(measure);
     records(measure);
     places(measure);
+    cards(measure);
+    card_stores(measure);
 }
 
 fn checksums(measure: &mut dyn FnMut(Row)) {
@@ -287,6 +291,67 @@ fn places(measure: &mut dyn FnMut(Row)) {
     measure(row!(journal_place_overlap, both(&[0, 1, 0, 1], &[5, 9, n - 1, n])));
     measure(row!(journal_place_location, both(&[0, 1], &[0, n])));
     measure(row!(journal_place_interval, both(&[8_192, 4_096], &[8_192, 4_096 * n])));
+}
+
+/// The image of a batch of so many blocks: of the smallest entries, and of the largest.
+fn extremes(blocks: usize) -> [(&'static str, Vec<u8>); 2] {
+    [("smallest", [0, 0]), ("largest", [512, 1_024])].map(|(which, [first, second])| {
+        let entry = || Entry { is_clone: false, first: vec![1; first], second: vec![2; second] };
+        (which, writing::image(&writing::full_batch(blocks, entry)))
+    })
+}
+
+/// A card of n blocks on which an image is live, from the last block on.
+fn card(n: usize, live: &[u8]) -> Vec<u8> {
+    with_live(n, n - 1, live, &mut Random(3))
+}
+
+/// A call on a card, which is in memory that stays.
+fn on_card(what: String, card: &mut [u8], others: &[u64]) -> Call {
+    let n = card.len() / BLOCK - 2;
+    let what = format!("N = {n}, {what}");
+    Call { what, record: None, others: [&[n as u64], &filled(card)[..], others].concat() }
+}
+
+/// All blocks live. A call is made twice, so that there are two batches to release.
+fn cards(measure: &mut dyn FnMut(Row)) {
+    let mut out = vec![0_u8; PAYLOAD * MOST];
+    let mut answer = [0_u64; 1];
+    let (out, answer) = (filled(&mut out), filled(&mut answer));
+    let mut any = [1, MOST].map(|n| card(n, &[]));
+    let format = any.iter_mut().map(|card| on_card("any bytes".into(), card, &[]));
+    measure(row!(journal_card_format, format));
+
+    let cards = |sizes: [usize; 2], times: usize| {
+        let images = sizes.into_iter().flat_map(extremes);
+        let card = |image: Vec<u8>| card(times * image.len() / BLOCK, &image.repeat(times));
+        images.map(|(which, image)| (format!("{which} entries"), card(image))).collect::<Vec<_>>()
+    };
+    let mut full = cards([1, MOST], 1);
+    let find =
+        |(what, card): &mut (String, Vec<u8>)| on_card(take(what), card, &[out, answer].concat());
+    measure(row!(journal_card_find, full.iter_mut().map(find)));
+    let mut full = cards([1, MOST / 2], 2);
+    let release = |(what, card): &mut (String, Vec<u8>)| on_card(take(what), card, &answer);
+    measure(row!(journal_card_release, full.iter_mut().map(release)));
+}
+
+/// The first store of an image, and the last, for which there is room twice.
+fn card_stores(measure: &mut dyn FnMut(Row)) {
+    let mut answer = [0_u64; 1];
+    let answer = filled(&mut answer);
+    for (sizes, last) in [([(1, 1), (MOST, 1_000)], false), ([(2, 1), (MOST, MOST / 2)], true)] {
+        let images: Vec<_> = sizes.iter().flat_map(|(_, blocks)| extremes(*blocks)).collect();
+        let mut cards: Vec<_> =
+            sizes.iter().flat_map(|(n, _)| [(); 2].map(|()| card(*n, &[]))).collect();
+        let store = |((which, image), card): (&(&str, Vec<u8>), &mut Vec<u8>)| {
+            let n = image.len() / BLOCK;
+            let made = if last { n } else { 0 };
+            let what = format!("{}, {which} entries, told {made}", blocks(n));
+            on_card(what, card, &[&lent(image)[..], &[made as u64], &answer].concat())
+        };
+        measure(row!(journal_card_store, images.iter().zip(&mut cards).map(store)));
+    }
 }
 
 fn listed(numbers: &[u64]) -> String {

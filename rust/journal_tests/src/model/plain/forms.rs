@@ -1,7 +1,7 @@
 //! Wire forms: into a ring, to an image's blocks, and read again.
 use super::super::block::{head, BLOCK, HEAD};
 use super::super::crc;
-use super::super::reading::{Joined, CLONE, CLONED, FIRST, INSERTED};
+use super::super::reading::{Joined, Range, CLONE, CLONED, FIRST, INSERTED};
 
 /// Writes an entry's form into the ring from `at` on, which may be past its end by less than its
 /// length. There is room.

@@ -1,12 +1,16 @@
-//! The record's calls in plain Rust, to be measured against: as one writes them who proves nothing. The
+//! The calls in plain Rust, to be measured against: as one writes them who proves nothing. The
 //! tests and answers are the model's; bytes are read where they are lent and copied in runs, nothing is
 //! allocated, and checksums are by slicing-by-8. No call is inlined, as the library's are not.
+mod card;
 mod forms;
 mod record;
 
 pub use super::block::strip;
 use super::block::{BLOCK, PAYLOAD};
-use super::reading::{Joined, CLONED, FIRST, INSERTED};
+use super::reading::{Joined, Range, CLONED, FIRST, INSERTED};
+pub use card::{
+    find as card_find, format as card_format, release as card_release, store as card_store,
+};
 use forms::Lengths;
 use record::{
     in_range, Record, BACK, CLONES, FRONT, FROZEN, HELD, LAST, LAYOUT, MEMORY, PLACE, START, WORDS,
