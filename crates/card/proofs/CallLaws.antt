@@ -2,6 +2,7 @@
 use mathlib.Core.Path.{_≡_, sym, ap, _∙_}
 use mathlib.Core.Bool.{true, false}
 use mathlib.Core.List.{List, _++_}
+use mathlib.Core.Option.{some}
 use Prim.Native.Nat.{ℕ, _+_, _*_, _/_, _≤_, _<_}
 use native.Mathlib.Omega.{arith}
 use borrow.Author.Tests.{lt-ltb, le-ltb, eqb-true}
@@ -9,7 +10,7 @@ use lib.Dec.{leb, ltb}
 use lib.ListN.{length, take, drop, length-append}
 use Rattle.refusals.specs.Outcome.{Outcome, gives, refuses, refusesBlock}
 use Rattle.refusals.specs.declared.Refusal.the-variants.{SizeOutOfRange, CardUnformed}
-use Rattle.refusals.proofs.Outcomes.{require-told, require-named, answered-refused, answered-given}
+use Rattle.refusals.proofs.Outcomes.{require-told, answered-refused, answered-given}
 use Rattle.disk_layout.specs.DiskLayout.{blocksInRange}
 use Rattle.disk_layout.specs.JournalInterval.{ValidJournalInterval}
 use Rattle.disk_layout.proofs.Intervals.{range-facts}
@@ -17,13 +18,14 @@ use Rattle.journal_image.specs.Image.{sameBytes, withoutChecksums}
 use Rattle.journal_image.specs.Strip.{stripCall}
 use Rattle.journal_image.specs.declared.Stripped.{Stripped}
 use Rattle.journal_image.specs.declared.Stripped.the-variants.{Refused}
-use Rattle.journal_image.proofs.Outcomes.{Given, given-told, named-below}
+use Rattle.journal_image.proofs.Damaged.{lowest-told}
+use Rattle.journal_image.proofs.Outcomes.{Given, given-told}
 use Rattle.card.specs.Superblock.{superblock}
 use Rattle.card.specs.Card.{cardSized, liveStart, liveLen, formed, liveImage}
 use Rattle.card.specs.Runs.{ComesTo}
 use Rattle.card.specs.Calls.{rewritten, formatCall, formatted, findCall, foundOutput}
 use Rattle.card.proofs.Formed.{formed-told, rewritten-is}
-use Rattle.card.proofs.Live.{length-live}
+use Rattle.card.proofs.Exactly.{find-exactly}
 
 pub sized-long : (n : ℕ) (card : List ℕ) → cardSized n card ≡ true → 8192 ≤ length card
 sized-long n card h = let e = eqb-true (length card) ((2 + n) * 4096) h in omega arith
@@ -133,15 +135,11 @@ module _ (n : ℕ) (card out : List ℕ) where
 
   -- 12's block is one of the live ones
   pub find-below : (number block : ℕ) → findCall n card out ≡ refusesBlock number block → block < 1024
-  unfolding findCall
   find-below number block e =
-      require-named (blocksInRange n) 1 _ number block e λ range e₁.
-      require-named (formed n card) 18 _ number block e₁ λ is e₂.
-      let f = formed-told n card is in
+      let ((range, (is, (room, done))), twelve, named) = find-exactly n card out .named-told number block e in
       omega (
         arith,
-        named-below (liveImage card) out number block e₂,
-        length-live n card f,
-        f .len-in,
+        lowest-told (liveLen card) (liveImage card) (some block) named .0,
+        formed-told n card is .len-in,
         range-facts n range .1,
       )

@@ -1,17 +1,14 @@
 -- The rows of release, as the code comes to them. Assumes nothing.
-use mathlib.Core.Path.{_≡_, refl, sym, ap, _∙_}
-use mathlib.Core.Bool.{Bool, true, false}
+use mathlib.Core.Path.{_≡_, sym, ap, _∙_}
+use mathlib.Core.Bool.{true, false}
 use mathlib.Core.List.{List, _++_}
-use mathlib.Core.Option.{Option, none, some}
+use mathlib.Core.Option.{none, some}
 use Prim.Native.Nat.{ℕ, _+_, _-_, _*_, _/_, _%_, _≤_, _<_}
 use native.Mathlib.Omega.{arith}
 use borrow.Author.Tests.{le-leb, lt-leb, leb-true}
-use lib.Dec.{leb}
 use lib.ListN.{length, length-take, length-drop}
-use Rattle.refusals.specs.Outcome.{Outcome, gives, refuses, refusesBlock, require_else_then_, given_else_then_}
-use Rattle.refusals.specs.Outcome.{undamaged_then_}
-use Rattle.refusals.proofs.Outcomes.{gives-same}
-use Rattle.refusals.proofs.Tests.{impossible}
+use Rattle.refusals.specs.Outcome.{Outcome, gives, refuses, refusesBlock}
+use Rattle.refusals.proofs.Rows.{undamaged-given}
 use Rattle.disk_layout.proofs.Intervals.{range-facts}
 use Rattle.disk_layout.specs.DiskLayout.{blocksInRange}
 use Rattle.journal_entry.specs.Entry.{JournalEntry}
@@ -33,6 +30,8 @@ use Rattle.card.specs.Runs.{LiveRuns}
 use Rattle.card.specs.declared.Runs.{Runs}
 use Rattle.card.proofs.Formed.{formed-told}
 use Rattle.card.proofs.Live.{length-live}
+use Rattle.card.proofs.Exactly.{release-exactly}
+use Rattle.card.proofs.StoreLaws.{read}
 use Rattle.card.proofs.Releasing.{split}
 
 -- A look for the lowest damaged block, as an answer.
@@ -120,36 +119,11 @@ module _ (n : ℕ) (card : List ℕ) where
 
 -- What the outcome tells of the rows, and the bytes.
 
-rows-given : {C : Type 0} (r f s : Bool) (o : Option ℕ) (p : Option (List JournalEntry)) (k d : ℕ)
-    → (require r else 1 then require f else 18 then require s else 8 then undamaged o then given p else 14 then
-    λ old. gives k) ≡ gives d
-    → ((es : List JournalEntry) → r ≡ true → f ≡ true → s ≡ true → p ≡ some es → k ≡ d → C) → C
-rows-given false f s o p k d e next = impossible cc
-rows-given true false s o p k d e next = impossible cc
-rows-given true true false o p k d e next = impossible cc
-rows-given true true true (some i) p k d e next = impossible cc
-rows-given true true true none none k d e next = impossible cc
-rows-given true true true none (some es) k d e next = next es refl refl refl refl (gives-same e)
-
-rows-named : {C : Type 0} (r f s : Bool) (o : Option ℕ) (p : Option (List JournalEntry)) (k number block : ℕ)
-    → (require r else 1 then require f else 18 then require s else 8 then undamaged o then
-    given p else 14 then λ old. gives k) ≡ refusesBlock number block
-    → (r ≡ true → f ≡ true → o ≡ some block → C) → C
-rows-named false f s o p k number block e next = impossible cc
-rows-named true false s o p k number block e next = impossible cc
-rows-named true true false o p k number block e next = impossible cc
-rows-named true true true (some i) p k number block e next = next refl refl cc
-rows-named true true true none none k number block e next = impossible cc
-rows-named true true true none (some es) k number block e next = impossible cc
-
 module _ (n : ℕ) (card : List ℕ) where
   -- 12's block is one of the live ones
   pub release-below : (number block : ℕ) → releaseCall n card ≡ refusesBlock number block → block < 1024
-  unfolding releaseCall
   release-below number block e =
-      rows-named (blocksInRange n) (formed n card) (leb 1 (liveLen card))
-      (lowestDamaged (liveLen card) (liveImage card))
-      (parsePayload (livePayload card)) (firstBlocks (livePayload card)) number block e λ range is named.
+      let ((range, (is, (some-live, done))), twelve, named) = release-exactly n card .named-told number block e in
       omega (
         arith,
         lowest-told (liveLen card) (liveImage card) (some block) named .0,
@@ -177,17 +151,16 @@ module _ (n : ℕ) (card : List ℕ) where
 
   module _ (d : ℕ) (e : gives d ≡ releaseCall n card) where
     pub release-told : Dropping d
-    unfolding releaseCall livePayload
+    unfolding livePayload
     release-told =
-        rows-given (blocksInRange n) (formed n card) (leb 1 (liveLen card))
-        (lowestDamaged (liveLen card) (liveImage card)) (parsePayload (livePayload card))
-        (firstBlocks (livePayload card)) d (sym e) λ es range is some-live reads first.
+        let (agrees, (range, (is, (some-live, (reads, done)))), first) =
+        undamaged-given _ _ _ _ _ (release-exactly n card) d (sym e) in
+        read (parsePayload (livePayload card)) reads λ es all.
         let l = length-live n card (formed-told n card is) in
         let h = leb-true 1 (liveLen card) some-live in
         let p : length (livePayload card) ≡ 4064 * liveLen card =
         length-without (liveLen card) (liveImage card) (omega arith) in
-        let t = split (livePayload card) es (omega arith) (omega arith) reads in
-        let m = t .most in
+        let m = split (livePayload card) es (omega arith) (omega arith) all .most in
         record { few = range-facts n range .1; is = is; first = first; within = omega arith }
 
     pub release-dropped : (after : List ℕ)

@@ -6,18 +6,18 @@ use mathlib.Core.Option.{Option, none, some}
 use Prim.Native.Nat.{ℕ, _+_, _-_, _*_, _%_, _≤_, _<_}
 use native.Mathlib.Omega.{arith}
 use borrow.Author.Tests.{le-leb, lt-leb, lt-ltb, le-ltb, eq-eqb, ne-eqb, eqb-true, leb-true, not-true, not-false}
-use lib.Dec.{leb, ltb, eqb}
+use lib.Dec.{ltb}
 use lib.ListN.{length, take, drop, length-take, length-drop}
 use lib.Seq.{length-take-le, drop-drop}
-use Rattle.refusals.specs.Outcome.{Outcome, gives, refuses, refusesBlock, require_else_then_, given_else_then_}
-use Rattle.refusals.specs.Outcome.{undamaged_then_, bytesAfter}
+use Rattle.refusals.specs.Outcome.{Outcome, gives, refuses, refusesBlock}
 use Rattle.refusals.proofs.Tests.{impossible}
+use Rattle.refusals.proofs.Rows.{undamaged-given}
 use Rattle.words.specs.Lists.{splice}
 use Rattle.disk_layout.specs.DiskLayout.{blocksInRange, JournalPoint}
 use Rattle.disk_layout.proofs.Intervals.{range-facts}
 use Rattle.journal_entry.specs.Entry.{JournalEntry}
 use Rattle.journal_range.specs.Payload.{parsePayload, rangeOf}
-use Rattle.journal_image.specs.Image.{withoutChecksums, lowestDamaged}
+use Rattle.journal_image.specs.Image.{lowestDamaged}
 use Rattle.journal_image.proofs.Damaged.{lowest-told}
 use Rattle.journal_ring.specs.Ring.{advance}
 use Rattle.journal_ring.proofs.Runs.{copied-whole}
@@ -25,6 +25,7 @@ use Rattle.image_range.specs.InPlace.{imagePayload, isRead}
 use Rattle.image_range.proofs.Ranges.{image-range}
 use Rattle.card.specs.Card.{liveStart, liveLen, formed}
 use Rattle.card.specs.Calls.{rewritten, imageBlocks, storeLeft, storeCall, withBlock, withStore, stored}
+use Rattle.card.proofs.Exactly.{store-exactly}
 use Rattle.card.proofs.Storing.{left-is, left-past, left-empty}
 
 -- What `range_reads` of an image in two parts tells.
@@ -33,7 +34,7 @@ unread : (o : Option (List JournalEntry)) → isRead o ≡ false → o ≡ none
 unread none e = refl
 unread (some es) e = impossible cc
 
-read : {C : Type 0} (o : Option (List JournalEntry)) → isRead o ≡ true
+pub read : {C : Type 0} (o : Option (List JournalEntry)) → isRead o ≡ true
     → ((es : List JournalEntry) → o ≡ some es → C) → C
 read none e k = impossible cc
 read (some es) e k = k es refl
@@ -117,47 +118,6 @@ module _ (n : ℕ) (card image : List ℕ) (made : ℕ) where
 
 -- What the outcome tells of the rows, and the bytes.
 
-rows-true : (r f w : Bool) (o : Option ℕ) (p : Option (List JournalEntry)) (l m : Bool)
-    → (require r else 1 then require f else 18 then require w else 11 then undamaged o then given p else 14 then λ new.
-    cond l (require m else 19 then gives true) (gives false)) ≡ gives true
-    → (r ≡ true) × (f ≡ true) × (w ≡ true) × (l ≡ true) × (m ≡ true)
-rows-true false f w o p l m e = impossible cc
-rows-true true false w o p l m e = impossible cc
-rows-true true true false o p l m e = impossible cc
-rows-true true true true (some i) p l m e = impossible cc
-rows-true true true true none none l m e = impossible cc
-rows-true true true true none (some es) false m e = impossible cc
-rows-true true true true none (some es) true false e = impossible cc
-rows-true true true true none (some es) true true e = (refl, refl, refl, refl, refl)
-
-rows-named : (r f w : Bool) (o : Option ℕ) (p : Option (List JournalEntry)) (l m : Bool) (number block : ℕ)
-    → (require r else 1 then require f else 18 then require w else 11 then undamaged o then
-    given p else 14 then λ new. cond l (require m else 19 then gives true) (gives false)) ≡ refusesBlock number block
-    → o ≡ some block
-rows-named false f w o p l m number block e = impossible cc
-rows-named true false w o p l m number block e = impossible cc
-rows-named true true false o p l m number block e = impossible cc
-rows-named true true true (some i) p l m number block e = cc
-rows-named true true true none none l m number block e = impossible cc
-rows-named true true true none (some es) false m number block e = impossible cc
-rows-named true true true none (some es) true false number block e = impossible cc
-rows-named true true true none (some es) true true number block e = impossible cc
-
-rows-other : (r f w : Bool) (o : Option ℕ) (p : Option (List JournalEntry)) (l m : Bool) (x card : List ℕ)
-    → ((require r else 1 then require f else 18 then require w else 11 then undamaged o then given p else 14 then λ new.
-    cond l (require m else 19 then gives true) (gives false)) ≡ gives true → ⊥)
-    → bytesAfter (require r else 1 then require f else 18 then require w else 11 then undamaged o then given p
-    else 14 then λ new.
-    cond l (require m else 19 then gives true) (gives false)) (cond l x card) card ≡ card
-rows-other false f w o p l m x card never = refl
-rows-other true false w o p l m x card never = refl
-rows-other true true false o p l m x card never = refl
-rows-other true true true (some i) p l m x card never = refl
-rows-other true true true none none l m x card never = refl
-rows-other true true true none (some es) false m x card never = refl
-rows-other true true true none (some es) true false x card never = refl
-rows-other true true true none (some es) true true x card never = absurd (never refl)
-
 module _ (n : ℕ) (card image : List ℕ) (made : ℕ) where
   abbrev k : ℕ
   k = imageBlocks image
@@ -165,25 +125,22 @@ module _ (n : ℕ) (card image : List ℕ) (made : ℕ) where
   abbrev pub Comes : Outcome Bool → List ℕ → Type 0
   Comes o after = (o ≡ storeCall n card image made) × (after ≡ stored n card image made)
 
+  -- it gives whether a store is left
+  given-left : (made-one : Bool) → storeCall n card image made ≡ gives made-one → storeLeft k made ≡ made-one
+  given-left made-one e = undamaged-given _ _ _ _ _ (store-exactly n card image made) made-one e .2
+
   -- no store is made: nothing changes
   pub store-kept : (o : Outcome Bool) → o ≡ storeCall n card image made → (o ≡ gives true → ⊥) → Comes o card
-  unfolding storeCall stored withStore
-  store-kept o e never = (
-    e,
-    sym (rows-other (blocksInRange n) (formed n card) (eqb (length image % 4096) 0) (lowestDamaged k image)
-        (parsePayload (withoutChecksums k image))
-        (storeLeft k made) (leb (liveLen card + k) n)
-        (cond (ltb made k) (withBlock n card image made) (rewritten card (liveStart card) (liveLen card + k))) card
-        (λ z. never (e ∙ z))),
-  )
+  unfolding stored withStore
+  store-kept (gives true) e never = absurd (never refl)
+  store-kept (gives false) e never = (e, rw (← e, given-left false (sym e)))
+  store-kept (refuses number) e never = (e, rw (← e))
+  store-kept (refusesBlock number block) e never = (e, rw (← e))
 
   -- 12's block is one of the image's
   pub store-below : (number block : ℕ) → storeCall n card image made ≡ refusesBlock number block → block < k
-  unfolding storeCall
   store-below number block e =
-      lowest-told k image (some block)
-      (rows-named (blocksInRange n) (formed n card) (eqb (length image % 4096) 0) (lowestDamaged k image)
-      (parsePayload (withoutChecksums k image)) (storeLeft k made) (leb (liveLen card + k) n) number block e) .0
+      lowest-told k image (some block) (store-exactly n card image made .named-told number block e .2) .0
 
   pub record Next : Type 0 where
     pub few : n ≤ 1024
@@ -194,17 +151,15 @@ module _ (n : ℕ) (card image : List ℕ) (made : ℕ) where
 
   module _ (e : gives true ≡ storeCall n card image made) where
     pub store-told : Next
-    unfolding storeCall
     store-told =
-        let t = rows-true (blocksInRange n) (formed n card) (eqb (length image % 4096) 0) (lowestDamaged k image)
-        (parsePayload (withoutChecksums k image))
-        (storeLeft k made) (leb (liveLen card + k) n) (sym e) in
+        let (agrees, (range, (is, (whole, (reads, (room, done))))), left) =
+        undamaged-given _ _ _ _ _ (store-exactly n card image made) true (sym e) in
         record {
-          few = range-facts n (t .0) .1;
-          is = t .1;
-          whole = eqb-true _ _ (t .2);
-          left = t .3;
-          room = leb-true _ _ (t .4);
+          few = range-facts n range .1;
+          is = is;
+          whole = eqb-true _ _ whole;
+          left = left;
+          room = leb-true _ _ (rw left at room);
         }
 
     pub store-next : (after : List ℕ)
