@@ -2,30 +2,28 @@
 use mathlib.Core.Path.{_≡_, sym, ap, _∙_}
 use mathlib.Core.Bool.{true, false}
 use mathlib.Core.List.{List, _++_}
-use mathlib.Core.Option.{some}
-use Prim.Native.Nat.{ℕ, _+_, _*_, _/_, _≤_, _<_}
+use mathlib.Core.Option.{none, some}
+use Prim.Native.Nat.{ℕ, _+_, _*_, _≤_, _<_}
 use native.Mathlib.Omega.{arith}
-use borrow.Author.Tests.{lt-ltb, le-ltb, eqb-true}
+use borrow.Author.Tests.{le-leb, lt-leb, lt-ltb, le-ltb, leb-true, eqb-true}
 use lib.Dec.{leb, ltb}
-use lib.ListN.{length, take, drop, length-append}
+use lib.ListN.{length, take, drop}
 use Rattle.refusals.specs.Outcome.{Outcome, gives, refuses, refusesBlock}
-use Rattle.refusals.specs.declared.Refusal.the-variants.{SizeOutOfRange, CardUnformed}
-use Rattle.refusals.proofs.Outcomes.{require-told, answered-refused, answered-given}
+use Rattle.refusals.specs.declared.Refusal.the-variants.{SizeOutOfRange, OutputTooShort, CardUnformed}
+use Rattle.refusals.proofs.Rows.{undamaged-given}
+use Rattle.refusals.proofs.Outcomes.{answered-refused, answered-given}
 use Rattle.disk_layout.specs.DiskLayout.{blocksInRange}
 use Rattle.disk_layout.specs.JournalInterval.{ValidJournalInterval}
 use Rattle.disk_layout.proofs.Intervals.{range-facts}
-use Rattle.journal_image.specs.Image.{sameBytes, withoutChecksums}
-use Rattle.journal_image.specs.Strip.{stripCall}
-use Rattle.journal_image.specs.declared.Stripped.{Stripped}
-use Rattle.journal_image.specs.declared.Stripped.the-variants.{Refused}
+use Rattle.journal_image.specs.Image.{sameBytes, payloadsOver, lowestDamaged}
+use Rattle.journal_image.specs.declared.BlocksAnswer.the-variants.{Blocks, ChecksumDiffers, Refused}
 use Rattle.journal_image.proofs.Damaged.{lowest-told}
-use Rattle.journal_image.proofs.Outcomes.{Given, given-told}
 use Rattle.card.specs.Superblock.{superblock}
 use Rattle.card.specs.Card.{cardSized, liveStart, liveLen, formed, liveImage}
-use Rattle.card.specs.Runs.{ComesTo}
+use Rattle.card.specs.Answers.{ComesTo}
 use Rattle.card.specs.Calls.{rewritten, formatCall, formatted, findCall, foundOutput}
 use Rattle.card.proofs.Formed.{formed-told, rewritten-is}
-use Rattle.card.proofs.Exactly.{find-exactly}
+use Rattle.card.proofs.Exactly.{find-rows, find-exactly}
 
 pub sized-long : (n : ℕ) (card : List ℕ) → cardSized n card ≡ true → 8192 ≤ length card
 sized-long n card h = let e = eqb-true (length card) ((2 + n) * 4096) h in omega arith
@@ -85,12 +83,21 @@ module _ (n : ℕ) (card : List ℕ) (room : ℕ) where
     unfolding findCall
     find-18 h out e = rw (range, h)
 
-    -- behind those two it is strip, of the live image in whatever two runs
-    pub find-strips : formed n card ≡ true → (r : Stripped) (image : List ℕ) → liveImage card ≡ image
-        → ComesTo (stripCall image) room r
-        → ComesTo (findCall n card) room r
-    unfolding findCall
-    find-strips h r image same comes out e = comes out e ∙ sym (rw (range, h, same))
+    module _ (is : formed n card ≡ true) where
+      pub find-9 : room < 4064 * liveLen card → ComesTo (findCall n card) room (Refused OutputTooShort)
+      find-9 h out e =
+          sym (find-rows n card out ∙ rw (range, is, lt-leb (4064 * liveLen card) (length out) (omega arith)))
+
+      module _ (fits : 4064 * liveLen card ≤ room) where
+        pub find-12 : (block : ℕ) → lowestDamaged (liveLen card) (liveImage card) ≡ some block
+            → ComesTo (findCall n card) room (ChecksumDiffers block)
+        find-12 block h out e =
+            sym (find-rows n card out ∙ rw (range, is, le-leb (4064 * liveLen card) (length out) (omega arith), h))
+
+        pub find-blocks : lowestDamaged (liveLen card) (liveImage card) ≡ none
+            → ComesTo (findCall n card) room (Blocks (liveLen card))
+        find-blocks h out e =
+            sym (find-rows n card out ∙ rw (range, is, le-leb (4064 * liveLen card) (length out) (omega arith), h))
 
 -- what is handed out
 module _ (n : ℕ) (card out : List ℕ) where
@@ -106,32 +113,23 @@ module _ (n : ℕ) (card out : List ℕ) where
   unfolding foundOutput
   find-named number block e = (e, rw (← e))
 
+  pub record Finding (k : ℕ) : Type 0 where
+    pub few : n ≤ 1024
+    pub is : formed n card ≡ true
+    pub room : 4064 * liveLen card ≤ length out
+    pub count : liveLen card ≡ k
+
   module _ (k : ℕ) (e : gives k ≡ findCall n card out) where
-    pub find-told : (blocksInRange n ≡ true) × (formed n card ≡ true) × Given (liveImage card) out k
-    unfolding findCall
+    pub find-told : Finding k
     find-told =
-        require-told (blocksInRange n) 1 _ k (sym e) λ range e₁.
-        require-told (formed n card) 18 _ k e₁ λ is e₂. (range, is, given-told (liveImage card) out k e₂)
+        let (agrees, (range, (is, (room, done))), count) =
+        undamaged-given _ _ _ _ _ (find-exactly n card out) k (sym e) in
+        record { few = range-facts n range .1; is = is; room = leb-true _ _ room; count = count }
 
-    -- both runs are whole blocks and there is room
-    pub find-room : (a b : List ℕ) → liveImage card ≡ a ++ b → 4064 * ((length a + length b) / 4096) ≤ length out
-    find-room a b same =
-        let g = find-told .2 in
-        let l : length (liveImage card) ≡ length a + length b = ap length same ∙ length-append a b in
-        let c = g .count in
-        let r = g .room in
-        omega arith
-
-    pub find-given : (a b after : List ℕ) → liveImage card ≡ a ++ b
-        → after ≡ withoutChecksums ((length a + length b) / 4096) (a ++ b)
-        ++ drop (4064 * ((length a + length b) / 4096)) out → Found (gives k) after
+    pub find-given : (after : List ℕ) → after ≡ payloadsOver (liveLen card) (liveImage card) out
+        → Found (gives k) after
     unfolding foundOutput
-    find-given a b after same is =
-        let g = find-told .2 in
-        let l : length (liveImage card) ≡ length a + length b = ap length same ∙ length-append a b in
-        let c = g .count in
-        let count : (length a + length b) / 4096 ≡ k = omega arith in
-        (e, rw (← e, same) (rw count at is))
+    find-given after is = (e, rw (← e, ← find-told .count) is)
 
   -- 12's block is one of the live ones
   pub find-below : (number block : ℕ) → findCall n card out ≡ refusesBlock number block → block < 1024

@@ -2,13 +2,11 @@
 use mathlib.Core.Path.{_≡_, refl, ap}
 use Rattle.refusals.specs.Refusals.{numberOf}
 use Rattle.refusals.proofs.Numbers.{number-determines}
-use Rattle.card.specs.Answers.{formattedOutcome, storedOutcome, releasedOutcome}
+use Rattle.card.specs.Answers.{formattedOutcome, storedOutcome}
 use Rattle.card.specs.declared.Formatted.{Formatted}
 use Rattle.card.specs.declared.Formatted.the-variants as format
 use Rattle.card.specs.declared.Stored.{Stored}
 use Rattle.card.specs.declared.Stored.the-variants as store
-use Rattle.card.specs.declared.Released.{Released}
-use Rattle.card.specs.declared.Released.the-variants as release
 
 pub formatted-determines : (a b : Formatted) → formattedOutcome a ≡ formattedOutcome b → a ≡ b
 formatted-determines format.Done format.Done h = refl
@@ -35,15 +33,3 @@ stored-determines (store.Refused x) store.NoneLeft h = cc
 stored-determines (store.Refused x) (store.ChecksumDiffers j) h = cc
 stored-determines (store.Refused x) (store.Refused y) h = let e : numberOf x ≡ numberOf y = cc in
     ap store.Refused (number-determines x y e)
-
-pub released-determines : (a b : Released) → releasedOutcome a ≡ releasedOutcome b → a ≡ b
-released-determines (release.Blocks m) (release.Blocks n) h = cc
-released-determines (release.Blocks m) (release.ChecksumDiffers j) h = cc
-released-determines (release.Blocks m) (release.Refused y) h = cc
-released-determines (release.ChecksumDiffers i) (release.Blocks n) h = cc
-released-determines (release.ChecksumDiffers i) (release.ChecksumDiffers j) h = cc
-released-determines (release.ChecksumDiffers i) (release.Refused y) h = cc
-released-determines (release.Refused x) (release.Blocks n) h = cc
-released-determines (release.Refused x) (release.ChecksumDiffers j) h = cc
-released-determines (release.Refused x) (release.Refused y) h = let e : numberOf x ≡ numberOf y = cc in
-    ap release.Refused (number-determines x y e)

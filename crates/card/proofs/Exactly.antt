@@ -41,24 +41,32 @@ module _ (n : ℕ) (card : List ℕ) where
   unfolding formatCall
   format-exactly = exactly _ _ _ refl refl
 
-  pub find-exactly : (out : List ℕ)
-      → ExactlyUndamaged
-      ((blocksInRange n, 1) ∷ (formed n card, 18) ∷ (leb (4064 * liveLen card) (length out), 9) ∷ [])
-      (lowestDamaged (liveLen card) (liveImage card)) [] (liveLen card) (findCall n card out)
+  -- find is strip of the live image, which is whole blocks: so many as are live
+  pub find-rows : (out : List ℕ)
+      → findCall n card out
+      ≡ (require blocksInRange n else 1 then require formed n card else 18 then
+      require leb (4064 * liveLen card) (length out) else 9 then
+      undamaged lowestDamaged (liveLen card) (liveImage card) then gives (liveLen card))
   unfolding findCall stripCall
-  find-exactly out = exactly-undamaged _ _ _ _ _ refl refl (in-rows (formed n card) refl)
+  find-rows out = rows (formed n card) refl
     where
-      in-rows : (t : Bool) → formed n card ≡ t
+      rows : (t : Bool) → formed n card ≡ t
           → findCall n card out
           ≡ (require blocksInRange n else 1 then require formed n card else 18 then
           require leb (4064 * liveLen card) (length out) else 9 then
           undamaged lowestDamaged (liveLen card) (liveImage card) then gives (liveLen card))
-      in-rows false is = rw is
-      in-rows true is =
+      rows false is = rw is
+      rows true is =
           let l = length-live n card (formed-told n card is) in
           let whole : length (liveImage card) % 4096 ≡ 0 = omega arith in
           let count : length (liveImage card) / 4096 ≡ liveLen card = omega arith in
           rw (is, eq-eqb _ _ whole, count)
+
+  pub find-exactly : (out : List ℕ)
+      → ExactlyUndamaged
+      ((blocksInRange n, 1) ∷ (formed n card, 18) ∷ (leb (4064 * liveLen card) (length out), 9) ∷ [])
+      (lowestDamaged (liveLen card) (liveImage card)) [] (liveLen card) (findCall n card out)
+  find-exactly out = exactly-undamaged _ _ _ _ _ refl refl (find-rows out)
 
   pub store-exactly : (image : List ℕ) (made : ℕ)
       → ExactlyUndamaged

@@ -1,7 +1,7 @@
 -- The rows of store, as the code comes to them, and the bytes of its stores. Assumes nothing.
 use mathlib.Core.Path.{_≡_, refl, sym, ap, _∙_}
 use mathlib.Core.Bool.{Bool, true, false, cond, not}
-use mathlib.Core.List.{List, _++_}
+use mathlib.Core.List.{List, [], _++_, append-nil}
 use mathlib.Core.Option.{Option, none, some}
 use Prim.Native.Nat.{ℕ, _+_, _-_, _*_, _%_, _≤_, _<_}
 use native.Mathlib.Omega.{arith}
@@ -28,9 +28,9 @@ use Rattle.card.specs.Calls.{rewritten, imageBlocks, storeLeft, storeCal
 use Rattle.card.proofs.Exactly.{store-exactly}
 use Rattle.card.proofs.Storing.{left-is, left-past, left-empty}
 
--- What `range_reads` of an image in two parts tells.
+-- What `range_reads` tells.
 
-unread : (o : Option (List JournalEntry)) → isRead o ≡ false → o ≡ none
+pub unread : (o : Option (List JournalEntry)) → isRead o ≡ false → o ≡ none
 unread none e = refl
 unread (some es) e = impossible cc
 
@@ -39,16 +39,18 @@ pub read : {C : Type 0} (o : Option (List JournalEntry)) → isRead o ≡ true
 read none e k = impossible cc
 read (some es) e k = k es refl
 
-module _ (r : Bool) (image parts : List ℕ) (same : image ≡ parts) (e : r ≡ isRead (rangeOf (imagePayload parts))) where
+-- of an image and nothing
+module _ (image : List ℕ) (r : Bool) (e : r ≡ isRead (rangeOf (imagePayload (image ++ [])))) where
   told : r ≡ isRead (parsePayload (imagePayload image))
-  told = rw same (e ∙ ap isRead (image-range parts))
+  told =
+      e ∙ ap isRead (ap (λ (l : List ℕ). rangeOf (imagePayload l)) (append-nil image) ∙ image-range image)
 
-  pub range-none : not r ≡ true → parsePayload (imagePayload image) ≡ none
-  range-none h = unread (parsePayload (imagePayload image)) (sym told ∙ not-true r h)
+  pub image-unread : not r ≡ true → parsePayload (imagePayload image) ≡ none
+  image-unread h = unread (parsePayload (imagePayload image)) (sym told ∙ not-true r h)
 
-  pub range-some : {C : Type 0} → not r ≡ false
+  pub image-read : {C : Type 0} → not r ≡ false
       → ((es : List JournalEntry) → parsePayload (imagePayload image) ≡ some es → C) → C
-  range-some h k = read (parsePayload (imagePayload image)) (sym told ∙ not-false r h) k
+  image-read h k = read (parsePayload (imagePayload image)) (sym told ∙ not-false r h) k
 
 -- Rows.
 

@@ -2,11 +2,11 @@
 -- paper 3. Assumes nothing.
 use mathlib.Core.Bool.{Bool, _&&_}
 use mathlib.Core.List.{List}
-use Prim.Native.Nat.{ℕ, _+_, _*_}
+use Prim.Native.Nat.{ℕ, _+_, _-_, _*_}
 use lib.Dec.{eqb}
 use lib.ListN.{length, take, drop}
 use Rattle.disk_layout.specs.declared.JournalInterval.{JournalInterval}
-use Rattle.disk_layout.specs.DiskLayout.{JournalStartAddr}
+use Rattle.disk_layout.specs.DiskLayout.{JournalStartAddr, JournalPoint}
 use Rattle.disk_layout.specs.JournalInterval.{interval, ValidJournalInterval}
 use Rattle.journal_entry.specs.Places.{wordAt}
 use Rattle.journal_image.specs.Image.{sameBytes, withoutChecksums}
@@ -43,6 +43,13 @@ journalPart card = drop JournalStartAddr card
 -- THE LIVE BLOCKS ARE AN IMAGE: those of the interval, in order, going on at block 0 of the journal behind block N - 1
 unfoldable pub liveImage : (card : List ℕ) → List ℕ
 liveImage card = cyclicSlice (journalPart card) (4096 * liveStart card) (4096 * liveLen card)
+
+-- its part up to the region's end, and its part from block 0 on: the runs of the card in which it lies
+unfoldable pub liveFront : (card : List ℕ) → List ℕ
+liveFront card = take (4096 * liveLen card) (drop (JournalPoint (liveStart card)) card)
+
+unfoldable pub liveBack : (card : List ℕ) → List ℕ
+liveBack card = take (4096 * liveLen card - length (liveFront card)) (journalPart card)
 
 -- and their payload
 unfoldable pub livePayload : (card : List ℕ) → List ℕ

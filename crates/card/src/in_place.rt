@@ -1,70 +1,76 @@
-// The live blocks in place: at most two runs of the card.
-use crate::Runs;
+// The live blocks of a card that is formed, where they lie: two runs of the card.
 use crate::super_block::live_len;
 use crate::super_block::live_start;
 use journal_image::Damage;
-use journal_image::Stripped;
 use journal_image::copy_payloads;
-use refusals::Refusal;
 ghost use mathlib.Core.Path.{_≡_};
 ghost use mathlib.Core.Bool.{true};
-ghost use mathlib.Core.List.{_++_};
-ghost use Prim.Native.Nat.{_+_, _*_, _/_, _%_, _≤_};
+ghost use Prim.Native.Nat.{_*_, _≤_};
 ghost use lib.ListN.{length};
-ghost use Rattle.journal_image.specs.Image.{payloadsOver};
-ghost use Rattle.journal_image.specs.Strip.{stripCall};
-ghost use Rattle.card.specs.Card.{formed};
-ghost use Rattle.card.specs.Runs.{LiveRuns, ComesTo};
+ghost use Rattle.journal_range.specs.Payload.{parsePayload};
+ghost use Rattle.journal_image.specs.Image.{payloadsOver, lowestDamaged};
+ghost use Rattle.journal_image.specs.Damage.{damageOf};
+ghost use Rattle.image_range.specs.InPlace.{isRead};
+ghost use Rattle.card.specs.Card.{liveLen, formed, liveImage, liveFront, liveBack, livePayload};
+ghost use Rattle.card.specs.Calls.{firstBlocks};
 
-// Where the live blocks of a card that is formed lie.
-pub(crate) fn live_runs(n: u64, card: &[u8]) -> Runs
-    requires { ⌜ n ≤ 1024 ⌝ }
-    requires { ⌜ formed n (now card) ≡ true ⌝ }
-    ensures { λ r. ⌜ LiveRuns (now (card .entry)) r ⌝ }
+// Those up to the region's end.
+fn live_front(n: u64, card: &[u8]) -> &[u8]
+    requires { ⌜ (n ≤ 1024) × (formed n (now card) ≡ true) ⌝ }
+    ensures { λ r. ⌜ now r ≡ liveFront (now (card .entry)) ⌝ }
 {
     let at = 8192 + 4096 * (live_start(card) as usize);
     let size = 4096 * (live_len(card) as usize);
-    let room = card.len() - at;
-    if size <= room {
-        return Runs {
-            at,
-            end: at + size,
-            over: 8192,
-        };
+    if size <= card.len() - at {
+        let end = at + size;
+        return &card[at..end];
     }
-    Runs {
-        at,
-        end: card.len(),
-        over: 8192 + (size - room),
-    }
+    &card[at..]
 }
 
-// What strip comes to of an image that is two slices joined, whole blocks each, with an output of so many bytes.
-pub(crate) fn strip_test(front: &[u8], back: &[u8], room: usize) -> Stripped
-    requires { ⌜ (length (now front) % 4096 ≡ 0) × (length (now back) % 4096 ≡ 0)
-        × (length (now front) + length (now back) ≤ 4194304) ⌝ }
-    ensures { λ r. ⌜ ComesTo (stripCall (now (front .entry) ++ now (back .entry))) room r ⌝ }
+// And those from block 0 of the region on.
+fn live_back(n: u64, card: &[u8]) -> &[u8]
+    requires { ⌜ (n ≤ 1024) × (formed n (now card) ≡ true) ⌝ }
+    ensures { λ r. ⌜ now r ≡ liveBack (now (card .entry)) ⌝ }
 {
-    let blocks = (front.len() + back.len()) / 4096;
-    if room < 4064 * blocks {
-        return Stripped::Refused(Refusal::OutputTooShort);
-    }
-    let damage = image_range::lowest_damaged(front, back);
-    match damage {
-        Damage::Block(block) => Stripped::ChecksumDiffers(block),
-        Damage::Nowhere => Stripped::Blocks(blocks),
-    }
+    let front = live_front(n, card);
+    let end = 8192 + (4096 * (live_len(card) as usize) - front.len());
+    &card[8192..end]
 }
 
-// The payload of both, one behind the other.
-pub(crate) fn copy_joined(front: &[u8], back: &[u8], out: &mut [u8])
-    requires { ⌜ (length (now front) % 4096 ≡ 0) × (length (now back) % 4096 ≡ 0)
-        × (4064 * ((length (now front) + length (now back)) / 4096) ≤ length (now out)) ⌝ }
+// The lowest damaged one, counted from the live start.
+pub(crate) fn live_damage(n: u64, card: &[u8]) -> Damage
+    requires { ⌜ (n ≤ 1024) × (formed n (now card) ≡ true) ⌝ }
+    ensures { λ r. ⌜ r
+        ≡ damageOf (lowestDamaged (liveLen (now (card .entry))) (liveImage (now (card .entry)))) ⌝ }
+{
+    image_range::lowest_damaged(live_front(n, card), live_back(n, card))
+}
+
+// Whether all of them read.
+pub(crate) fn live_reads(n: u64, card: &[u8]) -> bool
+    requires { ⌜ (n ≤ 1024) × (formed n (now card) ≡ true) ⌝ }
+    ensures { λ r. ⌜ r ≡ isRead (parsePayload (livePayload (now (card .entry)))) ⌝ }
+{
+    image_range::range_reads(live_front(n, card), live_back(n, card))
+}
+
+// The blocks of the first batch: its header's second word.
+pub(crate) fn first_blocks(n: u64, card: &[u8]) -> usize
+    requires { ⌜ (n ≤ 1024) × (formed n (now card) ≡ true) ⌝ }
+    ensures { λ r. ⌜ r ≡ firstBlocks (livePayload (now (card .entry))) ⌝ }
+{
+    image_range::word_at(live_front(n, card), live_back(n, card), 4) as usize
+}
+
+// Their payload, in order.
+pub(crate) fn copy_live(n: u64, card: &[u8], out: &mut [u8])
+    requires { ⌜ (n ≤ 1024) × (formed n (now card) ≡ true) × (4064 * liveLen (now card) ≤ length (now out)) ⌝ }
     ensures { λ _. ⌜ now (out .exit)
-        ≡ payloadsOver ((length (now (front .entry)) + length (now (back .entry))) / 4096)
-        (now (front .entry) ++ now (back .entry)) (now (out .entry)) ⌝ }
+        ≡ payloadsOver (liveLen (now (card .entry))) (liveImage (now (card .entry))) (now (out .entry)) ⌝ }
 {
+    let front = live_front(n, card);
     let at = 4064 * (front.len() / 4096);
     copy_payloads(front, out);
-    copy_payloads(back, &mut out[at..]);
+    copy_payloads(live_back(n, card), &mut out[at..]);
 }

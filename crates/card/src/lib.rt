@@ -3,16 +3,17 @@
 mod in_place;
 mod super_block;
 
-use crate::in_place::copy_joined;
-use crate::in_place::live_runs;
-use crate::in_place::strip_test;
+use crate::in_place::copy_live;
+use crate::in_place::first_blocks;
+use crate::in_place::live_damage;
+use crate::in_place::live_reads;
 use crate::super_block::is_superblock;
 use crate::super_block::live_len;
 use crate::super_block::live_start;
 use crate::super_block::write_superblock;
 use disk_layout::blocks_in_range;
+use journal_image::BlocksAnswer;
 use journal_image::Damage;
-use journal_image::Stripped;
 use refusals::Refusal;
 ghost use mathlib.Core.Path.{_≡_};
 ghost use mathlib.Core.Bool.{true, cond};
@@ -22,13 +23,12 @@ ghost use lib.Dec.{ltb};
 ghost use lib.ListN.{length};
 ghost use Rattle.disk_layout.specs.DiskLayout.{blocksInRange};
 ghost use Rattle.journal_image.specs.Image.{lowestDamaged};
-ghost use Rattle.journal_image.specs.Strip.{strippedOutcome};
+ghost use Rattle.journal_image.specs.Strip.{blocksOutcome};
 ghost use Rattle.journal_ring.specs.Ring.{advance};
 ghost use Rattle.card.specs.Card.{cardSized, liveStart, liveLen, formed, liveImage};
 ghost use Rattle.card.specs.Calls.{rewritten, formatCall, formatted, findCall, foundOutput, imageBlocks};
 ghost use Rattle.card.specs.Calls.{storeCall, stored, withBlock, releaseCall, released};
-ghost use Rattle.card.specs.Runs.{ComesTo};
-ghost use Rattle.card.specs.Answers.{formattedOutcome, storedOutcome, releasedOutcome};
+ghost use Rattle.card.specs.Answers.{formattedOutcome, storedOutcome, ComesTo};
 
 pub enum Formatted {
     Done,
@@ -45,22 +45,6 @@ pub enum Stored {
     ChecksumDiffers(usize),
     // 1, 18, 11, 14 or 19
     Refused(Refusal),
-}
-
-pub enum Released {
-    // so many blocks were dropped
-    Blocks(usize),
-    // 12: the lowest live block, counted from the live start, whose checksum differs
-    ChecksumDiffers(usize),
-    // 1, 18, 8 or 14
-    Refused(Refusal),
-}
-
-// Where the live blocks lie: the bytes of the card from at to end, and those from 8,192 to over.
-pub struct Runs {
-    pub at: usize,
-    pub end: usize,
-    pub over: usize,
 }
 
 fn card_sized(n: u64, card: &[u8]) -> bool
@@ -121,38 +105,38 @@ pub fn format(n: u64, card: &mut [u8]) -> Formatted
 }
 
 // What find comes to, with an output of so many bytes.
-pub fn find_test(n: u64, card: &[u8], room: usize) -> Stripped
+pub fn find_test(n: u64, card: &[u8], room: usize) -> BlocksAnswer
     ensures { λ r. ⌜ ComesTo (findCall n (now (card .entry))) room r ⌝ }
 {
     if !blocks_in_range(n) {
-        return Stripped::Refused(Refusal::SizeOutOfRange);
+        return BlocksAnswer::Refused(Refusal::SizeOutOfRange);
     }
     if !is_formed(n, card) {
-        return Stripped::Refused(Refusal::CardUnformed);
+        return BlocksAnswer::Refused(Refusal::CardUnformed);
     }
-    let r = live_runs(n, card);
-    let at = r.at;
-    let end = r.end;
-    let over = r.over;
-    strip_test(&card[at..end], &card[8192..over], room)
+    let blocks = live_len(card) as usize;
+    if room < 4064 * blocks {
+        return BlocksAnswer::Refused(Refusal::OutputTooShort);
+    }
+    let damage = live_damage(n, card);
+    match damage {
+        Damage::Block(block) => BlocksAnswer::ChecksumDiffers(block),
+        Damage::Nowhere => BlocksAnswer::Blocks(blocks),
+    }
 }
 
 // Hands out the live blocks' payload, in order.
-pub fn find(n: u64, card: &[u8], out: &mut [u8]) -> Stripped
-    ensures { λ r. ⌜ strippedOutcome r ≡ findCall n (now (card .entry)) (now (out .entry)) ⌝ }
+pub fn find(n: u64, card: &[u8], out: &mut [u8]) -> BlocksAnswer
+    ensures { λ r. ⌜ blocksOutcome r ≡ findCall n (now (card .entry)) (now (out .entry)) ⌝ }
     ensures { λ _. ⌜ now (out .exit) ≡ foundOutput n (now (card .entry)) (now (out .entry)) ⌝ }
 {
     let tested = find_test(n, card, out.len());
     match tested {
-        Stripped::Refused(why) => Stripped::Refused(why),
-        Stripped::ChecksumDiffers(block) => Stripped::ChecksumDiffers(block),
-        Stripped::Blocks(blocks) => {
-            let r = live_runs(n, card);
-            let at = r.at;
-            let end = r.end;
-            let over = r.over;
-            copy_joined(&card[at..end], &card[8192..over], out);
-            Stripped::Blocks(blocks)
+        BlocksAnswer::Refused(why) => BlocksAnswer::Refused(why),
+        BlocksAnswer::ChecksumDiffers(block) => BlocksAnswer::ChecksumDiffers(block),
+        BlocksAnswer::Blocks(blocks) => {
+            copy_live(n, card, out);
+            BlocksAnswer::Blocks(blocks)
         }
     }
 }
@@ -241,41 +225,33 @@ pub fn store(n: u64, card: &mut [u8], image: &[u8], made: u64) -> Stored
 }
 
 // The rows of release behind 12.
-fn release_rows(n: u64, card: &[u8]) -> Released
+fn release_rows(n: u64, card: &[u8]) -> BlocksAnswer
     requires { ⌜ (blocksInRange n ≡ true) × (formed n (now card) ≡ true) × (1 ≤ liveLen (now card))
         × (lowestDamaged (liveLen (now card)) (liveImage (now card)) ≡ none) ⌝ }
-    ensures { λ r. ⌜ releasedOutcome r ≡ releaseCall n (now (card .entry)) ⌝ }
+    ensures { λ r. ⌜ blocksOutcome r ≡ releaseCall n (now (card .entry)) ⌝ }
 {
-    let r = live_runs(n, card);
-    let at = r.at;
-    let end = r.end;
-    let over = r.over;
-    if !image_range::range_reads(&card[at..end], &card[8192..over]) {
-        return Released::Refused(Refusal::Unreadable);
+    if !live_reads(n, card) {
+        return BlocksAnswer::Refused(Refusal::Unreadable);
     }
-    Released::Blocks(image_range::word_at(&card[at..end], &card[8192..over], 4) as usize)
+    BlocksAnswer::Blocks(first_blocks(n, card))
 }
 
 // What release comes to.
-pub fn release_test(n: u64, card: &[u8]) -> Released
-    ensures { λ r. ⌜ releasedOutcome r ≡ releaseCall n (now (card .entry)) ⌝ }
+pub fn release_test(n: u64, card: &[u8]) -> BlocksAnswer
+    ensures { λ r. ⌜ blocksOutcome r ≡ releaseCall n (now (card .entry)) ⌝ }
 {
     if !blocks_in_range(n) {
-        return Released::Refused(Refusal::SizeOutOfRange);
+        return BlocksAnswer::Refused(Refusal::SizeOutOfRange);
     }
     if !is_formed(n, card) {
-        return Released::Refused(Refusal::CardUnformed);
+        return BlocksAnswer::Refused(Refusal::CardUnformed);
     }
     if live_len(card) < 1 {
-        return Released::Refused(Refusal::NothingThere);
+        return BlocksAnswer::Refused(Refusal::NothingThere);
     }
-    let r = live_runs(n, card);
-    let at = r.at;
-    let end = r.end;
-    let over = r.over;
-    let damage = image_range::lowest_damaged(&card[at..end], &card[8192..over]);
+    let damage = live_damage(n, card);
     match damage {
-        Damage::Block(block) => Released::ChecksumDiffers(block),
+        Damage::Block(block) => BlocksAnswer::ChecksumDiffers(block),
         Damage::Nowhere => release_rows(n, card),
     }
 }
@@ -294,17 +270,17 @@ fn drop_front(n: u64, card: &mut [u8], dropped: usize)
 }
 
 // Drops the first batch from the live interval.
-pub fn release(n: u64, card: &mut [u8]) -> Released
-    ensures { λ r. ⌜ releasedOutcome r ≡ releaseCall n (now (card .entry)) ⌝ }
+pub fn release(n: u64, card: &mut [u8]) -> BlocksAnswer
+    ensures { λ r. ⌜ blocksOutcome r ≡ releaseCall n (now (card .entry)) ⌝ }
     ensures { λ _. ⌜ now (card .exit) ≡ released n (now (card .entry)) ⌝ }
 {
     let tested = release_test(n, card);
     match tested {
-        Released::Refused(why) => Released::Refused(why),
-        Released::ChecksumDiffers(block) => Released::ChecksumDiffers(block),
-        Released::Blocks(blocks) => {
+        BlocksAnswer::Refused(why) => BlocksAnswer::Refused(why),
+        BlocksAnswer::ChecksumDiffers(block) => BlocksAnswer::ChecksumDiffers(block),
+        BlocksAnswer::Blocks(blocks) => {
             drop_front(n, card, blocks);
-            Released::Blocks(blocks)
+            BlocksAnswer::Blocks(blocks)
         }
     }
 }

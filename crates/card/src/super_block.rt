@@ -1,6 +1,5 @@
 // Block 0 of a card, written and tested in place.
 ghost use mathlib.Core.Path.{_≡_};
-ghost use Prim.Native.Nat.{_≤_};
 ghost use lib.ListN.{length};
 ghost use Rattle.journal_image.specs.Image.{sameBytes};
 ghost use Rattle.card.specs.Superblock.{superFields, superblock};
@@ -57,15 +56,13 @@ pub(crate) fn is_superblock(block: &[u8], start: u32, len: u32) -> bool
 
 // The start and the length that a card's block 0 has at their places.
 pub(crate) fn live_start(card: &[u8]) -> u32
-    requires { ⌜ 4096 ≤ length (now card) ⌝ }
     ensures { λ r. ⌜ r ≡ liveStart (now (card .entry)) ⌝ }
 {
-    words::word_of(card[38], card[39], card[40], card[41])
+    journal_entry::word_at(card, &card[0..0], 38)
 }
 
 pub(crate) fn live_len(card: &[u8]) -> u32
-    requires { ⌜ 4096 ≤ length (now card) ⌝ }
     ensures { λ r. ⌜ r ≡ liveLen (now (card .entry)) ⌝ }
 {
-    words::word_of(card[42], card[43], card[44], card[45])
+    journal_entry::word_at(card, &card[0..0], 42)
 }

@@ -3,17 +3,16 @@
 ghost use mathlib.Core.Path.{_≡_};
 ghost use Prim.Native.Nat.{_^_, _<_};
 ghost use Rattle.refusals.specs.Outcome.{into, bytesAfter};
-ghost use Rattle.journal_image.specs.Strip.{strippedOutcome};
+ghost use Rattle.journal_image.specs.Strip.{blocksOutcome};
 ghost use Rattle.card.specs.Calls.{formatCall, formatted, foundOutput, stored, released};
-ghost use Rattle.card.specs.Answers.{storedOutcome, releasedOutcome};
+ghost use Rattle.card.specs.Answers.{storedOutcome};
 ghost use Rattle.record_words.specs.Calls.{codeOf};
 ghost use Rattle.journal_c.specs.Numbers.{outputAfter, answersWith, numberWords, testWords};
 ghost use Rattle.journal_c.specs.Cards.{blockNamed, cardFind, cardStore, cardRelease};
 use crate::answers::answer_one;
 use card::Formatted;
-use card::Released;
 use card::Stored;
-use journal_image::Stripped;
+use journal_image::BlocksAnswer;
 
 // Makes the live interval (0, 0): 1, 18.
 #[no_mangle]
@@ -28,17 +27,17 @@ pub extern "C" fn journal_card_format(n: u64, card: &mut [u8]) -> u64
     }
 }
 
-fn answer_found(answer: &mut [u64], told: Stripped) -> u64
-    requires { ⌜ blockNamed (strippedOutcome told) < 2 ^ 52 ⌝ }
-    ensures { λ r. ⌜ r ≡ codeOf (answersWith (into numberWords (strippedOutcome told)) (now (answer .entry))) ⌝ }
+fn answer_blocks(answer: &mut [u64], told: BlocksAnswer) -> u64
+    requires { ⌜ blockNamed (blocksOutcome told) < 2 ^ 52 ⌝ }
+    ensures { λ r. ⌜ r ≡ codeOf (answersWith (into numberWords (blocksOutcome told)) (now (answer .entry))) ⌝ }
     ensures { λ _. ⌜ now (answer .exit)
         ≡ outputAfter (now (answer .entry))
-        (answersWith (into numberWords (strippedOutcome told)) (now (answer .entry))) ⌝ }
+        (answersWith (into numberWords (blocksOutcome told)) (now (answer .entry))) ⌝ }
 {
     match told {
-        Stripped::Blocks(blocks) => answer_one(answer, blocks as u64),
-        Stripped::ChecksumDiffers(block) => 12 + 256 * block as u64,
-        Stripped::Refused(why) => refusals::number(why),
+        BlocksAnswer::Blocks(blocks) => answer_one(answer, blocks as u64),
+        BlocksAnswer::ChecksumDiffers(block) => 12 + 256 * block as u64,
+        BlocksAnswer::Refused(why) => refusals::number(why),
     }
 }
 
@@ -55,9 +54,9 @@ pub extern "C" fn journal_card_find(n: u64, card: &[u8], out: &mut [u8], answer:
         (cardFind n (now (card .entry)) (now (out .entry)) (now (answer .entry))) ⌝ }
 {
     if answer.len() < 1 {
-        return answer_found(answer, card::find_test(n, card, out.len()));
+        return answer_blocks(answer, card::find_test(n, card, out.len()));
     }
-    answer_found(answer, card::find(n, card, out))
+    answer_blocks(answer, card::find(n, card, out))
 }
 
 fn answer_stored(answer: &mut [u64], told: Stored) -> u64
@@ -99,20 +98,6 @@ pub extern "C" fn journal_card_store(
     answer_stored(answer, card::store(n, card, image, made))
 }
 
-fn answer_released(answer: &mut [u64], told: Released) -> u64
-    requires { ⌜ blockNamed (releasedOutcome told) < 2 ^ 52 ⌝ }
-    ensures { λ r. ⌜ r ≡ codeOf (answersWith (into numberWords (releasedOutcome told)) (now (answer .entry))) ⌝ }
-    ensures { λ _. ⌜ now (answer .exit)
-        ≡ outputAfter (now (answer .entry))
-        (answersWith (into numberWords (releasedOutcome told)) (now (answer .entry))) ⌝ }
-{
-    match told {
-        Released::Blocks(blocks) => answer_one(answer, blocks as u64),
-        Released::ChecksumDiffers(block) => 12 + 256 * block as u64,
-        Released::Refused(why) => refusals::number(why),
-    }
-}
-
 // Drops the first batch from the live interval, and the blocks dropped: 1, 18, 8, 12, 14.
 #[no_mangle]
 pub extern "C" fn journal_card_release(n: u64, card: &mut [u8], answer: &mut [u64]) -> u64
@@ -124,7 +109,7 @@ pub extern "C" fn journal_card_release(n: u64, card: &mut [u8], answer: &mut [u6
         ≡ outputAfter (now (answer .entry)) (cardRelease n (now (card .entry)) (now (answer .entry))) ⌝ }
 {
     if answer.len() < 1 {
-        return answer_released(answer, card::release_test(n, card));
+        return answer_blocks(answer, card::release_test(n, card));
     }
-    answer_released(answer, card::release(n, card))
+    answer_blocks(answer, card::release(n, card))
 }

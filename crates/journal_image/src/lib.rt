@@ -7,7 +7,7 @@ ghost use Prim.Native.Nat.{_*_, _/_, _≤_, min};
 ghost use lib.ListN.{length};
 ghost use Rattle.journal_image.specs.Image.{ChecksumChecksOut, payloadsOver, lowestDamaged};
 ghost use Rattle.journal_image.specs.Damage.{damageOf};
-ghost use Rattle.journal_image.specs.Strip.{stripCall, strippedOutput, strippedOutcome};
+ghost use Rattle.journal_image.specs.Strip.{stripCall, strippedOutput, blocksOutcome};
 
 // The lowest block, counted from 0, whose checksum differs, if there is one.
 pub enum Damage {
@@ -15,12 +15,13 @@ pub enum Damage {
     Block(usize),
 }
 
-pub enum Stripped {
-    // so many blocks of payload were written
+// The answer of a call about so many blocks: those that strip writes, that a card finds or releases.
+pub enum BlocksAnswer {
+    // so many
     Blocks(usize),
     // 12: the lowest block, counted from 0, whose checksum differs
     ChecksumDiffers(usize),
-    // 11 or 9
+    // the others: of strip 11 or 9
     Refused(Refusal),
 }
 
@@ -100,23 +101,23 @@ pub fn copy_payloads(image: &[u8], out: &mut [u8])
 }
 
 // Turns an image into payload. Nothing is written before every checksum has agreed.
-pub fn strip(image: &[u8], out: &mut [u8]) -> Stripped
-    ensures { λ r. ⌜ strippedOutcome r ≡ stripCall (now (image .entry)) (now (out .entry)) ⌝ }
+pub fn strip(image: &[u8], out: &mut [u8]) -> BlocksAnswer
+    ensures { λ r. ⌜ blocksOutcome r ≡ stripCall (now (image .entry)) (now (out .entry)) ⌝ }
     ensures { λ _. ⌜ now (out .exit) ≡ strippedOutput (now (image .entry)) (now (out .entry)) ⌝ }
 {
     if image.len() % 4096 != 0 {
-        return Stripped::Refused(Refusal::ImageNotWhole);
+        return BlocksAnswer::Refused(Refusal::ImageNotWhole);
     }
     let blocks = image.len() / 4096;
     if out.len() < 4064 * blocks {
-        return Stripped::Refused(Refusal::OutputTooShort);
+        return BlocksAnswer::Refused(Refusal::OutputTooShort);
     }
     let damage = lowest_damaged(image);
     match damage {
-        Damage::Block(block) => Stripped::ChecksumDiffers(block),
+        Damage::Block(block) => BlocksAnswer::ChecksumDiffers(block),
         Damage::Nowhere => {
             copy_blocks(image, out, blocks);
-            Stripped::Blocks(blocks)
+            BlocksAnswer::Blocks(blocks)
         }
     }
 }

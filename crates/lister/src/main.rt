@@ -3,7 +3,7 @@
 ghost use mathlib.Core.Path.{_≡_};
 ghost use lib.ListN.{length};
 ghost use Rattle.lister.specs.Lister.{listedPayload, listedImage};
-use journal_image::Stripped;
+use journal_image::BlocksAnswer;
 use journal_range::LoadRead;
 use libc::STDERR_FILENO;
 use libc::STDIN_FILENO;
@@ -48,9 +48,9 @@ fn list_image(image: &[u8], payload: &mut [u8], replay: &mut [u8], text: &mut [u
     }
     let strip = journal_image::strip(image, payload);
     match strip {
-        Stripped::Refused(why) => listing::list_refusal(refusals::number(why), text),
-        Stripped::ChecksumDiffers(_) => listing::list_refusal(12, text),
-        Stripped::Blocks(blocks) => {
+        BlocksAnswer::Refused(why) => listing::list_refusal(refusals::number(why), text),
+        BlocksAnswer::ChecksumDiffers(_) => listing::list_refusal(12, text),
+        BlocksAnswer::Blocks(blocks) => {
             let end = 4064 * blocks;
             list_payload(&payload[0..end], replay, text)
         }

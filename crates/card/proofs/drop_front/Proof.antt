@@ -30,10 +30,10 @@ next-in c =
     )
 
 live-start-requires : tie.Need-live-start-requires
-live-start-requires c κs = omega (arith, is-formed (c .before .before) .size)
+live-start-requires c κs = search needs
 
 live-len-requires : tie.Need-live-len-requires
-live-len-requires c κs = omega (arith, is-formed (c .before .before .before .before) .size)
+live-len-requires c κs = search needs
 
 cast-block-on : tie.Need-cast-block-on
 cast-block-on c = omega (arith, is-formed (began c) .len-in, began c .pre)

@@ -1,74 +1,89 @@
--- `card::find_test` meets its contract: 1, 18, and then what strip of the live image in its two runs comes to.
--- Assumes nothing.
-use mathlib.Core.List.{_++_}
+-- `card::find_test` meets its contract: each return stands behind the tests of its row. Assumes nothing.
+use mathlib.Core.Path.{_≡_, sym, _∙_}
+use mathlib.Core.Bool.{true}
+use native.Mathlib.Omega.{arith}
 use Rattle.refusals.proofs.Tests.{passed, failed}
+use Rattle.disk_layout.specs.DiskLayout.{blocksInRange}
 use Rattle.disk_layout.proofs.Intervals.{range-facts}
-use Rattle.journal_entry.specs.Places.{part}
-use Rattle.card.proofs.CallLaws.{find-1, find-18, find-strips}
+use Rattle.journal_image.proofs.Damaged.{damage-some, damage-none}
+use Rattle.card.proofs.CallLaws.{find-1, find-18, find-9, find-12, find-blocks}
 use borrow.Author.Needs.{needs}
 use Rattle.card.proofs.find_test.Statement.{statement}
 use Rattle.card.proofs.find_test.Tie as tie
+
+-- up to the tests of 1 and 18
+ranged : (c : tie.After-is-formed) → blocksInRange (c .before .before .before .before .args .n) ≡ true
+ranged c = passed (c .before .before .blocks-in-range .ensures) (c .before .if1 .left)
 
 blocks-in-range-requires : tie.Need-blocks-in-range-requires
 blocks-in-range-requires c κs = search needs
 
 returns : tie.Need-returns
-returns c = find-1 (c .before .before .before .args .n) (c .before .before .before .args .card .now)
-    (c .before .before .before .args .room) (failed (c .before .blocks-in-range .ensures) (c .if1 .taken))
+returns c =
+    let s = c .before .before .before .args in
+    find-1 (s .n) (s .card .now) (s .room) (failed (c .before .blocks-in-range .ensures) (c .if1 .taken))
 
 is-formed-requires : tie.Need-is-formed-requires
 is-formed-requires c κs =
     range-facts (c .before .before .before .args .n) (passed (c .before .blocks-in-range .ensures) (c .if1 .left)) .1
 
 returns-2 : tie.Need-returns-2
-returns-2 c = find-18 (c .before .before .before .before .before .args .n)
-    (c .before .before .before .before .before .args .card .now)
-    (c .before .before .before .before .before .args .room)
-    (passed (c .before .before .before .blocks-in-range .ensures) (c .before .before .if1 .left))
-    (failed (c .before .is-formed .ensures) (c .if2 .taken))
+returns-2 c =
+    let t = c .before in
+    let s = t .before .before .before .before .args in
+    find-18 (s .n) (s .card .now) (s .room) (ranged t) (failed (t .is-formed .ensures) (c .if2 .taken))
 
-live-runs-requires : tie.Need-live-runs-requires
-live-runs-requires c κs = (
-  range-facts (c .before .before .before .before .before .args .n)
-      (passed (c .before .before .before .blocks-in-range .ensures) (c .before .before .if1 .left)) .1,
-  passed (c .before .is-formed .ensures) (c .if2 .left),
-)
+live-len-requires : tie.Need-live-len-requires
+live-len-requires c κs = search needs
 
-sub-strip-test : tie.Need-sub-strip-test
-sub-strip-test c = search needs
+cast-blocks : tie.Need-cast-blocks
+cast-blocks c = search needs
 
-part-strip-test-start : tie.Need-part-strip-test-start
-part-strip-test-start c = search needs
-
-part-strip-test-end : tie.Need-part-strip-test-end
-part-strip-test-end c = search needs
-
-sub-strip-test-2 : tie.Need-sub-strip-test-2
-sub-strip-test-2 c = search needs
-
-part-strip-test-start-2 : tie.Need-part-strip-test-start-2
-part-strip-test-start-2 c = search needs
-
-part-strip-test-end-2 : tie.Need-part-strip-test-end-2
-part-strip-test-end-2 c = search needs
-
-strip-test-requires : tie.Need-strip-test-requires
-strip-test-requires c κs = search needs
+mul-if3 : tie.Need-mul-if3
+mul-if3 c = search needs
 
 returns-3 : tie.Need-returns-3
 returns-3 c =
-    let s = c .before .before .before .before .before .before .before .before .before .args in
-    let r = c .before .before .before .live-runs in
-    find-strips (c .before .before .before .before .before .before .before .before .before .args .n)
-    (c .before .before .before .before .before .before .before .before .before .args .card .now)
-    (c .before .before .before .before .before .before .before .before .before .args .room)
-    (passed (c .before .before .before .before .before .before .before .blocks-in-range .ensures)
-    (c .before .before .before .before .before .before .if1 .left))
-    (passed (c .before .before .before .before .before .is-formed .ensures)
-    (c .before .before .before .before .if2 .left))
-    (c .strip-test .result) (part (s .card .now) (r .result .at) (r .result .end)
-    ++ part (s .card .now) 8192 (r .result .over)) (r .ensures .image)
-    (c .strip-test .ensures)
+    let l = c .before in
+    let t = l .before .before in
+    let s = t .before .before .before .before .args in
+    find-9 (s .n) (s .card .now) (s .room) (ranged t) (passed (t .is-formed .ensures) (l .before .if2 .left))
+    (omega (arith, l .live-len .ensures, c .if3 .taken))
+
+live-damage-requires : tie.Need-live-damage-requires
+live-damage-requires c κs =
+    let t = c .before .before .before in (
+      range-facts (t .before .before .before .before .args .n) (ranged t) .1,
+      passed (t .is-formed .ensures) (c .before .before .if2 .left),
+    )
+
+enum-known-damage : tie.Need-enum-known-damage
+enum-known-damage c = search needs
+
+enum-told : tie.Need-enum-told
+enum-told c = search needs
+
+returns-4 : tie.Need-returns-4
+returns-4 c =
+    let d = c .before .before .before in
+    let l = d .before .before in
+    let t = l .before .before in
+    let s = t .before .before .before .before .args in
+    find-12 (s .n) (s .card .now) (s .room) (ranged t) (passed (t .is-formed .ensures) (l .before .if2 .left))
+    (omega (arith, l .live-len .ensures, d .before .if3 .left)) _
+    (damage-some _ _ (sym (d .live-damage .ensures) ∙ c .before .damage .given .1))
+
+returns-5 : tie.Need-returns-5
+returns-5 c =
+    let d = c .before .before in
+    let l = d .before .before in
+    let t = l .before .before in
+    let s = t .before .before .before .before .args in
+    let found = find-blocks (s .n) (s .card .now) (s .room) (ranged t)
+    (passed (t .is-formed .ensures) (l .before .if2 .left))
+    (omega (arith, l .live-len .ensures, d .before .if3 .left))
+    (damage-none _ (sym (d .live-damage .ensures) ∙ c .enum-told .given .1)) in
+    rw (← l .live-len .ensures) at found
 
 pub find-test-spec : {M : Type 1} → statement M
 find-test-spec =
@@ -78,12 +93,12 @@ find-test-spec =
     returns
     is-formed-requires
     returns-2
-    live-runs-requires
-    sub-strip-test
-    part-strip-test-start
-    part-strip-test-end
-    sub-strip-test-2
-    part-strip-test-start-2
-    part-strip-test-end-2
-    strip-test-requires
-    returns-3)
+    live-len-requires
+    cast-blocks
+    mul-if3
+    returns-3
+    live-damage-requires
+    enum-known-damage
+    enum-told
+    returns-4
+    returns-5)

@@ -1,123 +1,40 @@
 -- `card::release_rows` meets its contract: 14, and then the first batch's blocks. Assumes nothing.
-use mathlib.Core.List.{_++_}
+use mathlib.Core.Path.{sym, ap, _∙_}
+use borrow.Author.Tests.{not-true, not-false}
+use Rattle.refusals.specs.Outcome.{gives}
 use Rattle.disk_layout.proofs.Intervals.{range-facts}
-use Rattle.journal_entry.specs.Places.{part}
-use Rattle.card.specs.Card.{liveImage}
-use Rattle.card.proofs.StoreLaws.{range-none, range-some}
+use Rattle.card.proofs.StoreLaws.{read, unread}
 use Rattle.card.proofs.ReleaseLaws.{release-14, release-given}
-use borrow.Author.Needs.{needs}
 use Rattle.card.proofs.release_rows.Statement.{statement}
 use Rattle.card.proofs.release_rows.Tie as tie
 
-live-runs-requires : tie.Need-live-runs-requires
-live-runs-requires c κs = (range-facts (c .before .args .n) (c .before .pre .0) .1, c .before .pre .1)
-
-sub-range-reads : tie.Need-sub-range-reads
-sub-range-reads c = search needs
-
-part-range-reads-start : tie.Need-part-range-reads-start
-part-range-reads-start c = search needs
-
-part-range-reads-end : tie.Need-part-range-reads-end
-part-range-reads-end c = search needs
-
-sub-range-reads-2 : tie.Need-sub-range-reads-2
-sub-range-reads-2 c = search needs
-
-part-range-reads-start-2 : tie.Need-part-range-reads-start-2
-part-range-reads-start-2 c = search needs
-
-part-range-reads-end-2 : tie.Need-part-range-reads-end-2
-part-range-reads-end-2 c = search needs
-
-range-reads-requires : tie.Need-range-reads-requires
-range-reads-requires c κs = search needs
+live-reads-requires : tie.Need-live-reads-requires
+live-reads-requires c κs = let s = c .before in (range-facts (s .args .n) (s .pre .0) .1, s .pre .1)
 
 returns : tie.Need-returns
-returns c = release-14 (c .before .before .before .before .before .before .args .n)
-    (c .before .before .before .before .before .before .args .card .now)
-    (c .before .before .before .before .before .before .pre .0)
-    (c .before .before .before .before .before .before .pre .1)
-    (c .before .before .before .before .before .before .pre .2)
-    (c .before .before .before .before .before .before .pre .3)
-    (range-none (c .before .range-reads .result)
-    (liveImage (c .before .before .before .before .before .before .args .card .now))
-    (part (c .before .before .before .before .before .before .args .card .now)
-    (c .before .before .before .before .live-runs .result .at)
-    (c .before .before .before .before .live-runs .result .end)
-    ++ part (c .before .before .before .before .before .before .args .card .now) 8192
-    (c .before .before .before .before .live-runs .result .over))
-    (c .before .before .before .before .live-runs .ensures .image) (c .before .range-reads .ensures)
-    (c .if1 .taken))
+returns c =
+    let r = c .before in
+    let s = r .before .before in
+    release-14 (s .args .n) (s .args .card .now) (s .pre .0) (s .pre .1) (s .pre .2) (s .pre .3)
+    (unread _ (sym (r .live-reads .ensures) ∙ not-true _ (c .if1 .taken)))
 
-sub-word-at : tie.Need-sub-word-at
-sub-word-at c = search needs
-
-part-word-at-start : tie.Need-part-word-at-start
-part-word-at-start c = search needs
-
-part-word-at-end : tie.Need-part-word-at-end
-part-word-at-end c = search needs
-
-sub-word-at-2 : tie.Need-sub-word-at-2
-sub-word-at-2 c = search needs
-
-part-word-at-start-2 : tie.Need-part-word-at-start-2
-part-word-at-start-2 c = search needs
-
-part-word-at-end-2 : tie.Need-part-word-at-end-2
-part-word-at-end-2 c = search needs
-
-word-at-requires : tie.Need-word-at-requires
-word-at-requires c κs = search needs
-
-cast-t25 : tie.Need-cast-t25
-cast-t25 c = search needs
+first-blocks-requires : tie.Need-first-blocks-requires
+first-blocks-requires c κs =
+    let s = c .before .before .before in (range-facts (s .args .n) (s .pre .0) .1, s .pre .1)
 
 returns-2 : tie.Need-returns-2
 returns-2 c =
-    range-some (c .before .before .before .before .range-reads .result)
-    (liveImage (c .before .before .before .before .before .before .before .before .before .args .card .now))
-    (part (c .before .before .before .before .before .before .before .before .before .args .card .now)
-    (c .before .before .before .before .before .before .before .live-runs .result .at)
-    (c .before .before .before .before .before .before .before .live-runs .result .end)
-    ++ part (c .before .before .before .before .before .before .before .before .before .args .card .now)
-    8192 (c .before .before .before .before .before .before .before .live-runs .result .over))
-    (c .before .before .before .before .before .before .before .live-runs .ensures .image)
-    (c .before .before .before .before .range-reads .ensures) (c .before .before .before .if1 .left) λ old reads.
-    release-given (c .before .before .before .before .before .before .before .before .before .args .n)
-    (c .before .before .before .before .before .before .before .before .before .args .card .now)
-    (c .before .before .before .before .before .before .before .before .before .pre .0)
-    (c .before .before .before .before .before .before .before .before .before .pre .1)
-    (c .before .before .before .before .before .before .before .before .before .pre .2)
-    (c .before .before .before .before .before .before .before .before .before .pre .3) old reads
-    (part (c .before .before .before .before .before .before .before .before .before .args .card .now)
-    (c .before .before .before .before .before .before .before .live-runs .result .at)
-    (c .before .before .before .before .before .before .before .live-runs .result .end)
-    ++ part (c .before .before .before .before .before .before .before .before .before .args .card .now)
-    8192 (c .before .before .before .before .before .before .before .live-runs .result .over))
-    (c .before .before .before .before .before .before .before .live-runs .ensures .image) (c .word-at .result)
-    (c .word-at .ensures)
+    let r = c .before .before in
+    let s = r .before .before in
+    read _ (sym (r .live-reads .ensures) ∙ not-false _ (c .before .if1 .left)) λ old reads.
+    ap gives (c .first-blocks .ensures)
+    ∙ release-given (s .args .n) (s .args .card .now) (s .pre .0) (s .pre .1) (s .pre .2) (s .pre .3) old reads
 
 pub release-rows-spec : {M : Type 1} → statement M
 release-rows-spec =
     tie.close
     (tie.spec
-    live-runs-requires
-    sub-range-reads
-    part-range-reads-start
-    part-range-reads-end
-    sub-range-reads-2
-    part-range-reads-start-2
-    part-range-reads-end-2
-    range-reads-requires
+    live-reads-requires
     returns
-    sub-word-at
-    part-word-at-start
-    part-word-at-end
-    sub-word-at-2
-    part-word-at-start-2
-    part-word-at-end-2
-    word-at-requires
-    cast-t25
+    first-blocks-requires
     returns-2)

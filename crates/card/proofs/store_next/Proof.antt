@@ -32,10 +32,10 @@ place-in c =
     )
 
 live-start-requires : tie.Need-live-start-requires
-live-start-requires c κs = omega (arith, is-formed (c .before .before .before) .size)
+live-start-requires c κs = search needs
 
 live-len-requires : tie.Need-live-len-requires
-live-len-requires c κs = omega (arith, is-formed (c .before .before .before .before .before) .size)
+live-len-requires c κs = search needs
 
 mul-from : tie.Need-mul-from
 mul-from c = search needs

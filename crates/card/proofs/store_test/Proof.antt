@@ -1,44 +1,46 @@
 -- `card::store_test` meets its contract: each return stands behind the tests of its row. Assumes nothing.
-use mathlib.Core.Path.{refl}
+use mathlib.Core.Path.{_≡_, sym, _∙_}
+use mathlib.Core.Bool.{true}
 use Rattle.refusals.proofs.Tests.{passed, failed}
+use Rattle.disk_layout.specs.DiskLayout.{blocksInRange}
 use Rattle.disk_layout.proofs.Intervals.{range-facts}
-use Rattle.card.specs.Calls.{imageBlocks}
+use Rattle.journal_image.proofs.Damaged.{damage-some, damage-none}
 use Rattle.card.proofs.StoreLaws.{store-1, store-18, store-11, store-12}
-use Rattle.card.proofs.ReleaseLaws.{one-damaged, one-agrees}
 use borrow.Author.Needs.{needs}
 use Rattle.card.proofs.store_test.Statement.{statement}
 use Rattle.card.proofs.store_test.Tie as tie
+
+-- up to the tests of 1 and 18
+ranged : (c : tie.After-is-formed) → blocksInRange (c .before .before .before .before .before .args .n) ≡ true
+ranged c = passed (c .before .before .blocks-in-range .ensures) (c .before .if1 .left)
 
 blocks-in-range-requires : tie.Need-blocks-in-range-requires
 blocks-in-range-requires c κs = search needs
 
 returns : tie.Need-returns
-returns c = store-1 (c .before .before .before .before .args .n)
-    (c .before .before .before .before .args .card .now) (c .before .before .before .before .args .image .now)
-    (c .before .before .before .before .args .made) (failed (c .before .blocks-in-range .ensures) (c .if1 .taken))
+returns c =
+    let s = c .before .before .before .before .args in
+    store-1 (s .n) (s .card .now) (s .image .now) (s .made)
+    (failed (c .before .blocks-in-range .ensures) (c .if1 .taken))
 
 is-formed-requires : tie.Need-is-formed-requires
-is-formed-requires c κs = range-facts (c .before .before .before .before .args .n)
+is-formed-requires c κs =
+    range-facts (c .before .before .before .before .args .n)
     (passed (c .before .blocks-in-range .ensures) (c .if1 .left)) .1
 
 returns-2 : tie.Need-returns-2
-returns-2 c = store-18 (c .before .before .before .before .before .before .args .n)
-    (c .before .before .before .before .before .before .args .card .now)
-    (c .before .before .before .before .before .before .args .image .now)
-    (c .before .before .before .before .before .before .args .made)
-    (passed (c .before .before .before .blocks-in-range .ensures) (c .before .before .if1 .left))
-    (failed (c .before .is-formed .ensures) (c .if2 .taken))
+returns-2 c =
+    let t = c .before in
+    let s = t .before .before .before .before .before .args in
+    store-18 (s .n) (s .card .now) (s .image .now) (s .made) (ranged t)
+    (failed (t .is-formed .ensures) (c .if2 .taken))
 
 returns-3 : tie.Need-returns-3
 returns-3 c =
-    store-11 (c .before .before .before .before .before .before .before .args .n)
-    (c .before .before .before .before .before .before .before .args .card .now)
-    (c .before .before .before .before .before .before .before .args .image .now)
-    (c .before .before .before .before .before .before .before .args .made)
-    (passed (c .before .before .before .before .blocks-in-range .ensures)
-    (c .before .before .before .if1 .left))
-    (passed (c .before .before .is-formed .ensures) (c .before .if2 .left))
-    (c .if3 .taken)
+    let t = c .before .before in
+    let s = t .before .before .before .before .before .args in
+    store-11 (s .n) (s .card .now) (s .image .now) (s .made) (ranged t)
+    (passed (t .is-formed .ensures) (c .before .if2 .left)) (c .if3 .taken)
 
 lowest-damaged-requires : tie.Need-lowest-damaged-requires
 lowest-damaged-requires c κs = search needs
@@ -51,31 +53,22 @@ enum-told c = search needs
 
 store-rows-requires : tie.Need-store-rows-requires
 store-rows-requires c κs =
-    let s = c .before .before .before .before .before .before .before .before .before .before .args in
-    let d = c .before .before .lowest-damaged in (
-      passed (c .before .before .before .before .before .before .before .blocks-in-range .ensures)
-          (c .before .before .before .before .before .before .if1 .left),
-      passed (c .before .before .before .before .before .is-formed .ensures)
-          (c .before .before .before .before .if2 .left),
-      c .before .before .before .if3 .left,
-      one-agrees (s .image .now) (imageBlocks (s .image .now)) refl (d .result) (d .ensures) (c .enum-told .given .1),
+    let d = c .before .before in
+    let t = d .before .before .before in (
+      ranged t,
+      passed (t .is-formed .ensures) (d .before .before .if2 .left),
+      d .before .if3 .left,
+      damage-none _ (sym (d .lowest-damaged .ensures) ∙ c .enum-told .given .1),
     )
 
 returns-4 : tie.Need-returns-4
 returns-4 c =
-    let s = c .before .before .before .before .before .before .before .before .before .before .before .args in
-    let d = c .before .before .before .lowest-damaged in
-    store-12 (c .before .before .before .before .before .before .before .before .before .before .before .args .n)
-    (c .before .before .before .before .before .before .before .before .before .before .before .args .card .now)
-    (c .before .before .before .before .before .before .before .before .before .before .before .args .image
-    .now) (c .before .before .before .before .before .before .before .before .before .before .before .args
-    .made) (passed (c .before .before .before .before .before .before .before .before .blocks-in-range
-    .ensures) (c .before .before .before .before .before .before .before .if1 .left))
-    (passed (c .before .before .before .before .before .before .is-formed .ensures)
-    (c .before .before .before .before .before .if2 .left))
-    (c .before .before .before .before .if3 .left) _
-    (one-damaged (s .image .now) (imageBlocks (s .image .now)) refl (d .result) (d .ensures) _
-    (c .before .damage .given .1))
+    let d = c .before .before .before in
+    let t = d .before .before .before in
+    let s = t .before .before .before .before .before .args in
+    store-12 (s .n) (s .card .now) (s .image .now) (s .made) (ranged t)
+    (passed (t .is-formed .ensures) (d .before .before .if2 .left)) (d .before .if3 .left) _
+    (damage-some _ _ (sym (d .lowest-damaged .ensures) ∙ c .before .damage .given .1))
 
 returns-5 : tie.Need-returns-5
 returns-5 c = search needs

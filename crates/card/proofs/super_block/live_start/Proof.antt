@@ -1,38 +1,37 @@
--- `card::super_block::live_start` meets its contract: the word's four bytes, one by one. Assumes nothing.
-use mathlib.Core.Path.{sym, _∙_}
-use Rattle.journal_entry.proofs.Joined.{word-bytes}
+-- `card::super_block::live_start` meets its contract: the word at its place. Assumes nothing.
+use mathlib.Core.Path.{ap, _∙_}
+use mathlib.Core.List.{List, append-nil}
+use Prim.Native.Nat.{ℕ}
+use Rattle.journal_entry.specs.Places.{wordAt}
 use Rattle.card.specs.Card.{liveStart}
 use borrow.Author.Needs.{needs}
 use Rattle.card.proofs.super_block.live_start.Statement.{statement}
 use Rattle.card.proofs.super_block.live_start.Tie as tie
 
-shared-slice-read-word-of : tie.Need-shared-slice-read-word-of
-shared-slice-read-word-of c = search needs
+sub-word-at : tie.Need-sub-word-at
+sub-word-at c = search needs
 
-shared-slice-read-word-of-2 : tie.Need-shared-slice-read-word-of-2
-shared-slice-read-word-of-2 c = search needs
+part-word-at-start : tie.Need-part-word-at-start
+part-word-at-start c = search needs
 
-shared-slice-read-word-of-3 : tie.Need-shared-slice-read-word-of-3
-shared-slice-read-word-of-3 c = search needs
+part-word-at-end : tie.Need-part-word-at-end
+part-word-at-end c = search needs
 
-shared-slice-read-word-of-4 : tie.Need-shared-slice-read-word-of-4
-shared-slice-read-word-of-4 c = search needs
-
-word-of-requires : tie.Need-word-of-requires
-word-of-requires c κs = search needs
+word-at-requires : tie.Need-word-at-requires
+word-at-requires c κs = search needs
 
 returns : tie.Need-returns
 unfolding liveStart
-returns c = let a = c .before .before .before .before .before .before .args in
-    c .word-of .ensures ∙ sym (word-bytes (a .card .now) 38)
+returns c =
+    let card = c .before .before .before .args .card .now in
+    c .word-at .ensures ∙ ap (λ (l : List ℕ). wordAt l 38) (append-nil card)
 
 pub live-start-spec : {M : Type 1} → statement M
 live-start-spec =
     tie.close
     (tie.spec
-    shared-slice-read-word-of
-    shared-slice-read-word-of-2
-    shared-slice-read-word-of-3
-    shared-slice-read-word-of-4
-    word-of-requires
+    sub-word-at
+    part-word-at-start
+    part-word-at-end
+    word-at-requires
     returns)

@@ -15,8 +15,8 @@ use Rattle.journal_c.proofs.cards.journal_card_find.Tie as tie
 find-test-requires : tie.Need-find-test-requires
 find-test-requires c κs = search needs
 
-answer-found-requires : tie.Need-answer-found-requires
-answer-found-requires c κs =
+answer-blocks-requires : tie.Need-answer-blocks-requires
+answer-blocks-requires c κs =
     let s = c .before .before .before .before .before .before .args in
     named-small _ 1024 (omega arith) λ number block e.
     find-below (s .n) (s .card .now) (s .out .now) number block (sym (c .find-test .ensures (s .out .now) refl) ∙ e)
@@ -30,7 +30,7 @@ returns c =
     let s = t .before .before .before .before .before .before .args in
     let call = findCall (s .n) (s .card .now) (s .out .now) in
     let h = also (into numberWords) _ call (s .answer .now) _ _ (t .find-test .ensures (s .out .now) refl)
-    (c .before .before .answer-found .ensures) in (
+    (c .before .before .answer-blocks .ensures) in (
       h .0,
       (
         short-kept numberWords (λ a. refl) call (s .answer .now) (foundOutput (s .n) (s .card .now) (s .out .now))
@@ -42,8 +42,8 @@ returns c =
 find-requires : tie.Need-find-requires
 find-requires c κs = search needs
 
-answer-found-requires-2 : tie.Need-answer-found-requires-2
-answer-found-requires-2 c κs =
+answer-blocks-requires-2 : tie.Need-answer-blocks-requires-2
+answer-blocks-requires-2 c κs =
     let f = c .before .before in
     let s = f .before .before .before .before .before .before .before .args in
     named-small _ 1024 (omega arith) λ number block e.
@@ -61,7 +61,7 @@ returns-2 c =
     let s = f .before .before .before .before .before .before .before .args in
     let call = findCall (s .n) (s .card .now) (s .out .now) in
     let h = also (into numberWords) _ call (s .answer .now) _ _ (f .find .ensures .0)
-    (c .before .before .answer-found2 .ensures) in (
+    (c .before .before .answer-blocks2 .ensures) in (
       h .0,
       (
         f .find .ensures .1
@@ -76,11 +76,11 @@ journal-card-find-spec =
     tie.close
     (tie.spec
     find-test-requires
-    answer-found-requires
+    answer-blocks-requires
     same-length
     returns
     find-requires
-    answer-found-requires-2
+    answer-blocks-requires-2
     same-length-2
     same-length-3
     returns-2)

@@ -15,8 +15,8 @@ use Rattle.journal_c.proofs.cards.journal_card_release.Tie as tie
 release-test-requires : tie.Need-release-test-requires
 release-test-requires c κs = search needs
 
-answer-released-requires : tie.Need-answer-released-requires
-answer-released-requires c κs =
+answer-blocks-requires : tie.Need-answer-blocks-requires
+answer-blocks-requires c κs =
     let s = c .before .before .before .before .before .before .args in
     named-small _ 1024 (omega arith) λ number block e.
     release-below (s .n) (s .card .now) number block (sym (c .release-test .ensures) ∙ e)
@@ -33,7 +33,7 @@ returns c =
     let s = t .before .before .before .before .before .before .args in
     let call = releaseCall (s .n) (s .card .now) in
     let h = also (into numberWords) _ call (s .answer .now) _ _ (t .release-test .ensures)
-    (c .before .before .answer-released .ensures) in (
+    (c .before .before .answer-blocks .ensures) in (
       h .0,
       (
         short-kept numberWords (λ a. refl) call (s .answer .now) (released (s .n) (s .card .now)) (s .card .now)
@@ -45,8 +45,8 @@ returns c =
 release-requires : tie.Need-release-requires
 release-requires c κs = search needs
 
-answer-released-requires-2 : tie.Need-answer-released-requires-2
-answer-released-requires-2 c κs =
+answer-blocks-requires-2 : tie.Need-answer-blocks-requires-2
+answer-blocks-requires-2 c κs =
     let f = c .before .before in
     let s = f .before .before .before .before .before .before .args in
     named-small _ 1024 (omega arith) λ number block e.
@@ -64,7 +64,7 @@ returns-2 c =
     let s = f .before .before .before .before .before .before .args in
     let call = releaseCall (s .n) (s .card .now) in
     let h = also (into numberWords) _ call (s .answer .now) _ _ (f .release .ensures .0)
-    (c .before .before .answer-released2 .ensures) in (
+    (c .before .before .answer-blocks2 .ensures) in (
       h .0,
       (
         f .release .ensures .1
@@ -79,12 +79,12 @@ journal-card-release-spec =
     tie.close
     (tie.spec
     release-test-requires
-    answer-released-requires
+    answer-blocks-requires
     same-length
     same-length-2
     returns
     release-requires
-    answer-released-requires-2
+    answer-blocks-requires-2
     same-length-3
     same-length-4
     returns-2)

@@ -1,16 +1,16 @@
--- `journal_c::cards::answer_found` meets its contract: the answer's word, a named block's code or a number.
+-- `journal_c::cards::answer_blocks` meets its contract: the answer's word, a named block's code or a number.
 -- Assumes nothing.
 use mathlib.Core.Path.{refl, sym, ap}
 use native.Mathlib.Omega.{arith}
 use Rattle.refusals.specs.Outcome.{into}
-use Rattle.journal_image.specs.declared.Stripped.{Stripped}
-use Rattle.journal_image.specs.Strip.{strippedOutcome}
+use Rattle.journal_image.specs.declared.BlocksAnswer.{BlocksAnswer}
+use Rattle.journal_image.specs.Strip.{blocksOutcome}
 use Rattle.journal_c.specs.Numbers.{numberWords}
 use Rattle.journal_c.proofs.Answering.{also}
 use Rattle.journal_c.proofs.CardCalls.{named-is}
 use borrow.Author.Needs.{needs}
-use Rattle.journal_c.proofs.cards.answer_found.Statement.{statement}
-use Rattle.journal_c.proofs.cards.answer_found.Tie as tie
+use Rattle.journal_c.proofs.cards.answer_blocks.Statement.{statement}
+use Rattle.journal_c.proofs.cards.answer_blocks.Tie as tie
 
 enum-known-told : tie.Need-enum-known-told
 enum-known-told c = search needs
@@ -24,12 +24,12 @@ enum-known-told-2 c = search needs
 mul-result : tie.Need-mul-result
 mul-result c =
     let s = c .before .before .before .before in
-    record { fits = omega (arith, named-is _ _ _ (ap strippedOutcome (c .before .told2 .given .1)) (s .pre)) }
+    record { fits = omega (arith, named-is _ _ _ (ap blocksOutcome (c .before .told2 .given .1)) (s .pre)) }
 
 add-result : tie.Need-add-result
 add-result c =
     let s = c .before .before .before .before in
-    record { fits = omega (arith, named-is _ _ _ (ap strippedOutcome (c .before .told2 .given .1)) (s .pre)) }
+    record { fits = omega (arith, named-is _ _ _ (ap blocksOutcome (c .before .told2 .given .1)) (s .pre)) }
 
 enum-known-told-3 : tie.Need-enum-known-told-3
 enum-known-told-3 c = search needs
@@ -43,23 +43,23 @@ same-length c = search needs
 returns : tie.Need-returns
 returns c =
     let s = c .before .before .before .before .before .before .before .before in
-    also (λ (t : Stripped). into numberWords (strippedOutcome t)) _ (s .args .told) (s .args .answer .now) _ _
+    also (λ (t : BlocksAnswer). into numberWords (blocksOutcome t)) _ (s .args .told) (s .args .answer .now) _ _
     (sym (c .before .before .before .before .before .told .given .1)) (c .before .before .answer-one .ensures)
 
 returns-2 : tie.Need-returns-2
 returns-2 c =
     let s = c .before .before .before .before in
-    also (λ (t : Stripped). into numberWords (strippedOutcome t)) _ (s .args .told) (s .args .answer .now) _ _
+    also (λ (t : BlocksAnswer). into numberWords (blocksOutcome t)) _ (s .args .told) (s .args .answer .now) _ _
     (sym (c .before .told2 .given .1)) (refl, refl)
 
 returns-3 : tie.Need-returns-3
 returns-3 c =
     let s = c .before .before .before .before .before in
-    also (λ (t : Stripped). into numberWords (strippedOutcome t)) _ (s .args .told) (s .args .answer .now) _ _
+    also (λ (t : BlocksAnswer). into numberWords (blocksOutcome t)) _ (s .args .told) (s .args .answer .now) _ _
     (sym (c .before .before .told3 .given .1)) (c .number .ensures, refl)
 
-pub answer-found-spec : {M : Type 1} → statement M
-answer-found-spec =
+pub answer-blocks-spec : {M : Type 1} → statement M
+answer-blocks-spec =
     tie.close
     (tie.spec
     enum-known-told
