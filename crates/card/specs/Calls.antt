@@ -16,7 +16,7 @@ use Rattle.journal_ring.specs.Ring.{advance}
 use Rattle.card.specs.Superblock.{superblock}
 use Rattle.card.specs.Card.{cardSized, liveStart, liveLen, formed, liveImage, livePayload}
 
--- a store of one block: at a block of the slice, and "every block outside the written ones is unchanged"
+-- block 0 stored for an interval: "Every block outside the written ones is unchanged."
 unfoldable pub rewritten : (card : List ℕ) (start len : ℕ) → List ℕ
 rewritten card start len = splice card 0 (superblock start len)
 
