@@ -10,7 +10,7 @@ use lib.ListN.{length, take, drop, take-append-drop}
 use lib.Seq.{length-take-le, take-at, drop-at, drop-drop}
 use Rattle.refusals.proofs.Tests.{both}
 use Rattle.words.proofs.Splice.{splice-zero, length-splice}
-use Rattle.disk_layout.specs.JournalInterval.{interval, ValidJournalInterval}
+use Rattle.disk_layout.specs.JournalInterval.{ValidJournalInterval}
 use Rattle.journal_entry.specs.Places.{wordAt}
 use Rattle.journal_entry.proofs.Joined.{word-left}
 use Rattle.journal_image.specs.Image.{sameBytes}

@@ -10,21 +10,23 @@ use lib.ListN.{length}
 use Rattle.refusals.specs.Outcome.{gives, refuses}
 use Rattle.words.specs.Words.{word}
 use Rattle.words.specs.Lists.{concatSeq}
-use Rattle.journal_entry.specs.Entry.{JournalEntry, SumJournalEntries, wire, wires, withinLimits}
-use Rattle.journal_entry.specs.Parse.{readBytes, readWord, parseEntry, readEntries, parseEntries}
-use Rattle.journal_range.specs.Range.{JournalRange, parseHeader, parseJournalRangeOfBytes, parseFrom, parseJournalRange}
+use Rattle.journal_entry.specs.Entry.{JournalEntry, SumJournalEntries, wire, wires, withinLimitsAt}
+use Rattle.journal_entry.specs.Parse.{readBytes, readWord, parseEntryAt, readEntriesAt, parseEntriesAt}
+use Rattle.journal_range.specs.Range.{JournalRange, parseHeader, parseJournalRangeOfBytesAt, parseFromAt}
+use Rattle.journal_range.specs.Range.{parseJournalRangeAt}
 use Rattle.journal_range.specs.Payload.{payload, parsePayload}
 use Rattle.disk_layout.specs.JournalInterval.{ValidJournalInterval, ContiguousJournalInterval, JournalFrontInterval}
 use Rattle.disk_layout.specs.JournalInterval.{JournalBackInterval, NextStartPoint}
 use Rattle.disk_layout.specs.Calls.{frontCall, backCall, nextStartCall, locationCall}
 use Rattle.journalist.specs.declared.Journalist.{Journalist}
-use Rattle.journalist.specs.Record.{inRange, hangsTogether}
-use Rattle.journalist.specs.Changes.{emptyRecord}
+use Rattle.journalist.specs.Record.{inRange, listWeight, hangsTogether}
+use Rattle.journalist.specs.Changes.{emptyRecord, appendedRecord}
 use Rattle.journalist.specs.Calls.{openCall}
+use Rattle.journalist.specs.Append.{canAppend, ringTakes, appendCall}
 use Rattle.journalist.proofs.Kept.{empty-hangs}
 use Rattle.history.specs.Crash.{replayed}
 use Rattle.history.proofs.Crash.{recovers, not-recovered}
-use Rattle.cases.specs.Cases.{loaded, AllHold, cases}
+use Rattle.cases.specs.Cases.{loaded, appended, AllHold, cases}
 
 -- the new record
 abbrev new : Journalist
@@ -59,14 +61,20 @@ module _ (jr : JournalRange) (whole : length (concatSeq jr) % 4064 ≡ 0) (few :
       ap (λ (n : ℕ). replayed n (r .after) (r .buffer)) (sym most) ∙ r .replays more in
       rw (new-opened, r .accepted) (ap gives out)
 
+-- the journal of the appends
+fresh-hangs : hangsTogether (emptyRecord 5 16904) ≡ true
+unfolding inRange
+fresh-hangs = empty-hangs 5 16904 refl
+
 infixr 10 _also_
 -- one case, and the others
 _also_ : {A B : Type 0} → A → B → A × B
 _also_ a b = (a, b)
 
 pub all-hold : AllHold cases
-unfolding word wire wires withinLimits readBytes readWord parseEntry readEntries parseEntries parseHeader
-    parseJournalRangeOfBytes parseFrom parseJournalRange parsePayload payload frontCall backCall nextStartCall
+unfolding word wire wires withinLimitsAt readBytes readWord parseEntryAt readEntriesAt parseEntriesAt parseHeader
+    parseJournalRangeOfBytesAt parseFromAt parseJournalRangeAt parsePayload payload appended openCall inRange appendCall
+    canAppend ringTakes listWeight appendedRecord frontCall backCall nextStartCall
     locationCall ValidJournalInterval ContiguousJournalInterval JournalFrontInterval JournalBackInterval NextStartPoint
 all-hold =
     refl
@@ -79,6 +87,12 @@ all-hold =
     also unread _ refl (omega arith) refl
     also read _ refl (omega arith) _ refl (omega arith) 4063 refl
     also unread _ refl (omega arith) refl
+    also read _ refl (omega arith) _ refl (omega arith) 20319 refl
+    also unread _ refl (omega arith) refl
+    also rw fresh-hangs refl
+    also rw fresh-hangs refl
+    also refl
+    also refl
     also refl
     also refl
     also refl

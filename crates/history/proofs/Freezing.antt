@@ -8,7 +8,7 @@ use native.Mathlib.Omega.{arith}
 use lib.ListN.{length, take, length-append}
 use lib.Seq.{take-at}
 use Rattle.refusals.specs.Outcome.{gives}
-use Rattle.journal_entry.specs.Entry.{JournalEntry, AllWithin, SumJournalEntries, wires}
+use Rattle.journal_entry.specs.Entry.{JournalEntry, valueLimit, AllWithin, SumJournalEntries, wires}
 use Rattle.journal_entry.proofs.Reading.{sum-append, wires-append, within-append}
 use Rattle.journalist.specs.declared.Last.{Last}
 use Rattle.journalist.specs.Updates.{moved}
@@ -69,7 +69,8 @@ module _ (n : ℕ) (w : World) (i : Invariant n w) where
         blocks-are = i .blocks-are;
         hangs = frozen-hangs (w .journalist) (i .hangs);
         ring-long = i .ring-long;
-        frozen-within = within-append (w .lists .frozen) (w .lists .memory) (i .frozen-within) (i .memory-within);
+        frozen-within =
+            within-append valueLimit (w .lists .frozen) (w .lists .memory) (i .frozen-within) (i .memory-within);
         memory-within = tt;
         stays = staysBehind (w .lists .memory);
         frozen-split = stays-behind (w .lists .memory);
@@ -129,7 +130,7 @@ module _ (n : ℕ) (w : World) (i : Invariant n w) where
         hangs = thawed-hangs j (i .hangs);
         ring-long = i .ring-long;
         frozen-within = rw stays-left (within-front (i .stays) moves all-within);
-        memory-within = within-append moves m (within-behind (i .stays) moves all-within) (i .memory-within);
+        memory-within = within-append valueLimit moves m (within-behind (i .stays) moves all-within) (i .memory-within);
         stays = i .stays;
         frozen-split = rw (stays-left, append-nil) refl;
         last-holds = omega arith;

@@ -12,7 +12,7 @@ ghost use Rattle.journal_entry.specs.Places.{wordAt, kindOf, isCloneKind
 // The most first bytes of an entry, and the most second bytes of an insert and of a clone.
 pub const FIRST_LIMIT: usize = 512;
 
-pub const VALUE_LIMIT: usize = 1024;
+pub const VALUE_LIMIT: usize = 16384;
 
 pub const TO_LIMIT: usize = 512;
 

@@ -13,8 +13,8 @@ use lib.Seq.{take-at, take-take, length-take-le}
 use Rattle.words.proofs.Slices.{Bytes, bytes-drop, bytes-take}
 use Rattle.journal_entry.specs.declared.Walk.{Walk}
 use Rattle.journal_entry.specs.declared.Walk.the-variants.{End, Unreadable as NoEnd}
-use Rattle.journal_entry.specs.Entry.{JournalEntry, SumJournalEntries, wires}
-use Rattle.journal_entry.specs.Parse.{_>>=_, provided, readEntries, parseEntries}
+use Rattle.journal_entry.specs.Entry.{JournalEntry, valueLimit, SumJournalEntries, wires}
+use Rattle.journal_entry.specs.Parse.{_>>=_, provided, readEntries, parseEntriesAt}
 use Rattle.journal_entry.specs.Places.{wordAt, part, placeBehind, entriesEnd}
 use Rattle.journal_entry.proofs.Reading.{eight-each, length-wires}
 use Rattle.journal_entry.proofs.Sound.{AllStand, readEntries-sound}
@@ -23,7 +23,7 @@ use Rattle.journal_entry.proofs.Walks.{walk-within}
 use Rattle.journal_range.specs.declared.BatchPlace.{BatchPlace}
 use Rattle.journal_range.specs.declared.BatchRead.{BatchRead}
 use Rattle.journal_range.specs.declared.BatchRead.the-variants.{Read, Unreadable}
-use Rattle.journal_range.specs.Range.{parseJournalRangeOfBytes}
+use Rattle.journal_range.specs.Range.{parseJournalRangeOfBytesAt}
 use Rattle.journal_range.specs.Payload.{frontBatch, batchAnswer}
 use Rattle.words.proofs.Slices.{drop-take}
 use Rattle.journal_range.proofs.Same.{both}
@@ -56,7 +56,7 @@ with-long-bind n none = refl
 with-long-bind n (some r) = refl
 
 pub batch-yes : (s : List ℕ) → Headed s → frontBatch s ≡ with-long (long s) (listed s)
-unfolding frontBatch parseJournalRangeOfBytes parseEntries
+unfolding frontBatch parseJournalRangeOfBytesAt parseEntriesAt
 batch-yes s h =
     rw (
       header-yes s (h .header),
@@ -140,7 +140,8 @@ pub batch-bounds : (s : List ℕ) (es : List JournalEntry) (next : ℕ) → fron
     → BatchBounds s es next
 batch-bounds s es next e =
     let d = batch-told s es next e in
-    let k : AllStand (wordAt s 0) (part s 8 (long s)) (es, d .rest) = readEntries-sound _ _ _ (d .read) in
+    let k : AllStand valueLimit (wordAt s 0) (part s 8 (long s)) (es, d .rest) =
+    readEntries-sound valueLimit _ _ _ (d .read) in
     let l = length-listed s (d .headed) in
     record {
       entries = eight-each es;
@@ -157,7 +158,7 @@ batch-wires s es next bytes e =
     let d = batch-told s es next e in
     let p = part s 8 (long s) in
     let b : Bytes p = bytes-take (long s - 8) (drop 8 s) (bytes-drop 8 s bytes) in
-    let k : AllStand (wordAt s 0) p (es, d .rest) = readEntries-sound _ _ _ (d .read) in
+    let k : AllStand valueLimit (wordAt s 0) p (es, d .rest) = readEntries-sound valueLimit _ _ _ (d .read) in
     let bound = batch-bounds s es next e in
     sym (take-at (wires es) (d .rest) (SumJournalEntries es) (length-wires es))
     ∙ ap (take (SumJournalEntries es)) (k .bytes-are b)
@@ -178,7 +179,8 @@ batch-walked s h =
         → batchAnswer (with-long (long s) o) ≡ walkAnswer (wordAt s 0) (long s) (placeBehind (long s) o)
     go none e = refl
     go (some (es, rest)) e =
-        let k : AllStand (wordAt s 0) (part s 8 (long s)) (es, rest) = readEntries-sound _ _ _ e in
+        let k : AllStand valueLimit (wordAt s 0) (part s 8 (long s)) (es, rest) =
+        readEntries-sound valueLimit _ _ _ e in
         let l = length-listed s h in
         let many : length es ≡ wordAt s 0 = k .count in
         let bytes : SumJournalEntries es ≡ long s - length rest - 8 = omega (arith, k .weighs, h .blocks) in

@@ -14,8 +14,8 @@ use lib.Seq.{take-append-le}
 use Rattle.words.specs.Lists.{chunks, concatSeq}
 use Rattle.journal_entry.specs.Entry.{JournalEntry}
 use Rattle.journal_entry.proofs.Options.{bind-parts, provided-parts}
-use Rattle.journal_range.specs.Range.{JournalRange, parseHeader, parseJournalRangeOfBytes, parseFrom}
-use Rattle.journal_range.specs.Range.{parseJournalRange}
+use Rattle.journal_range.specs.Range.{JournalRange, parseHeader, parseJournalRangeOfBytes, parseFrom, parseFromAt}
+use Rattle.journal_range.specs.Range.{parseJournalRangeAt}
 use Rattle.journal_range.specs.Payload.{parsePayload}
 use Rattle.journal_range.proofs.Same.{both}
 use Rattle.journal_range.proofs.Payload.{chunks-append}
@@ -23,7 +23,7 @@ use Rattle.journal_range.proofs.Payload.{chunks-append}
 behind-from : {C : Type 0} (k : ℕ) (a b : JournalRange) (es fs : List JournalEntry) → k ≤ length a
     → parseFrom k a ≡ some es → parseFrom k (a ++ b) ≡ some fs
     → ((gs : List JournalEntry) → parseFrom 0 b ≡ some gs → es ++ gs ≡ fs → C) → C
-unfolding parseFrom
+unfolding parseFromAt
 behind-from zero [] b es fs h p q next = let e : [] ≡ es = cc in
     next fs q (ap (λ (l : List JournalEntry). l ++ fs) (sym e))
 behind-from (suc k) [] b es fs h p q next = absurd (not-suc-le-zero h)
@@ -47,7 +47,7 @@ behind-from zero (x ∷ a) b es fs h p q next =
 pub reads-behind : {C : Type 0} (p q : List ℕ) (es fs : List JournalEntry) → length p % 4064 ≡ 0 → length q % 4064 ≡ 0
     → parsePayload p ≡ some es → parsePayload (p ++ q) ≡ some fs
     → ((gs : List JournalEntry) → parsePayload q ≡ some gs → es ++ gs ≡ fs → C) → C
-unfolding parsePayload parseJournalRange
+unfolding parsePayload parseJournalRangeAt
 reads-behind p q es fs hp hq ep eq next =
     let n : ℕ = length p / 4064 in
     let m : ℕ = length q / 4064 in

@@ -9,13 +9,14 @@ use native.Mathlib.Omega.{arith}
 use lib.Dec.{leb}
 use lib.ListN.{length, take, drop, length-append, length-drop, length-take}
 use Rattle.words.specs.Lists.{chunks, concatSeq}
-use Rattle.journal_entry.specs.Entry.{JournalEntry, SumJournalEntries}
-use Rattle.journal_entry.specs.Parse.{readEntries, parseEntries}
+use Rattle.journal_entry.specs.Entry.{JournalEntry, valueLimit, SumJournalEntries}
+use Rattle.journal_entry.specs.Parse.{readEntries, parseEntries, parseEntriesAt}
 use Rattle.journal_entry.proofs.Options.{bind-parts, provided-parts}
 use Rattle.journal_entry.proofs.Reading.{eight-each, sum-append}
 use Rattle.journal_entry.proofs.Sound.{AllStand, readEntries-sound}
-use Rattle.journal_range.specs.Range.{JournalRange, parseHeader, parseJournalRangeOfBytes, parseFrom}
-use Rattle.journal_range.specs.Range.{parseJournalRange}
+use Rattle.journal_range.specs.Range.{JournalRange, parseHeader, parseJournalRangeOfBytesAt, parseFrom}
+use Rattle.journal_range.specs.Range.{parseFromAt}
+use Rattle.journal_range.specs.Range.{parseJournalRange, parseJournalRangeAt}
 use Rattle.journal_range.specs.Payload.{parsePayload}
 use Rattle.journal_range.proofs.Same.{both}
 use Rattle.journal_range.proofs.Joining.{drop-behind}
@@ -23,10 +24,10 @@ use Rattle.journal_range.proofs.Payload.{concat-chunks}
 
 entries-weigh : (n : ℕ) (s : List ℕ) (es : List JournalEntry) → parseEntries n s ≡ some es
     → SumJournalEntries es ≤ length s
-unfolding parseEntries
+unfolding parseEntriesAt
 entries-weigh n s es e =
     bind-parts (readEntries n s) _ es e λ r e₁ e₂.
-    let k : AllStand n s r = readEntries-sound n s r e₁ in
+    let k : AllStand valueLimit n s r = readEntries-sound valueLimit n s r e₁ in
     let ee : r .0 ≡ es = cc in
     subst (λ (l : List JournalEntry). SumJournalEntries l ≤ length s) ee (omega (arith, k .weighs))
 
@@ -39,7 +40,7 @@ concat-split (suc k) (b ∷ bs) =
 
 weigh-from : (k : ℕ) (jr : JournalRange) (es : List JournalEntry) → parseFrom k jr ≡ some es
     → SumJournalEntries es ≤ length (concatSeq (drop k jr))
-unfolding parseFrom parseJournalRangeOfBytes
+unfolding parseFromAt parseJournalRangeOfBytesAt
 weigh-from zero [] es e = let ee : [] ≡ es = cc in
     subst (λ (l : List JournalEntry). SumJournalEntries l ≤ 0) ee (omega arith)
 weigh-from (suc k) [] es e = let ee : [] ≡ es = cc in
@@ -67,7 +68,7 @@ weigh-from zero (b ∷ bs) es e =
 
 pub range-weighs : (jr : JournalRange) (es : List JournalEntry) → parseJournalRange jr ≡ some es
     → SumJournalEntries es ≤ length (concatSeq jr)
-unfolding parseJournalRange
+unfolding parseJournalRangeAt
 range-weighs jr es e = weigh-from 0 jr es e
 
 pub payload-weighs : (s : List ℕ) (es : List JournalEntry) → parsePayload s ≡ some es → SumJournalEntries es ≤ length s

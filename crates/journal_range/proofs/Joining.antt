@@ -17,19 +17,19 @@ use Rattle.journal_entry.specs.Entry.{JournalEntry}
 use Rattle.journal_entry.specs.Parse.{_>>=_, provided}
 use Rattle.journal_entry.proofs.Options.{bind-parts, provided-parts}
 use Rattle.journal_range.specs.Range.{JournalBlock, JournalRange, parseHeader, parseJournalRangeOfBytes}
-use Rattle.journal_range.specs.Range.{parseFrom, parseJournalRange}
+use Rattle.journal_range.specs.Range.{parseFrom, parseFromAt, parseJournalRange, parseJournalRangeAt}
 use Rattle.journal_range.proofs.Same.{bind-same, provided-same, both}
 
 -- a range's first blocks belong to a batch that is read: what is left is the range behind them
 pub parseFrom-drop : (k : ℕ) (jr : JournalRange) → parseFrom k jr ≡ parseJournalRange (drop k jr)
-unfolding parseFrom parseJournalRange
+unfolding parseFromAt parseJournalRangeAt
 parseFrom-drop zero jr = refl
 parseFrom-drop (suc k) [] = refl
 parseFrom-drop (suc k) (b ∷ bs) = parseFrom-drop k bs
 
 -- no blocks read as no entries
 pub parseJournalRange-nil : parseJournalRange [] ≡ some []
-unfolding parseJournalRange
+unfolding parseJournalRangeAt
 parseJournalRange-nil = refl
 
 pub drop-behind : (k : ℕ) (b : JournalBlock) (bs : JournalRange) → 1 ≤ k → drop (k - 1) bs ≡ drop k (b ∷ bs)
@@ -43,7 +43,7 @@ pub parseJournalRange-cons : (b : JournalBlock) (bs : JournalRange) → parseJou
     es₁ ← parseJournalRangeOfBytes (concatSeq (take nblocks (b ∷ bs))) nentries
     es₂ ← parseJournalRange (drop nblocks (b ∷ bs))
     some (es₁ ++ es₂))
-unfolding parseFrom
+unfolding parseFromAt
 parseJournalRange-cons b bs =
     sym (parseFrom-drop 0 (b ∷ bs))
     ∙ bind-same (parseHeader b) _ _ λ hdr. provided-same (leb 1 (hdr .1) && leb (hdr .1) (length (b ∷ bs))) _ _ λ fits.
@@ -53,7 +53,7 @@ parseJournalRange-cons b bs =
 -- joining, where the first k blocks of the first range are read already
 joining-from : (k : ℕ) (a b : JournalRange) (es fs : List JournalEntry) → k ≤ length a
     → parseFrom k a ≡ some es → parseFrom 0 b ≡ some fs → parseFrom k (a ++ b) ≡ some (es ++ fs)
-unfolding parseFrom
+unfolding parseFromAt
 joining-from zero [] b es fs h p q = q ∙ ap some (ap (λ (l : List JournalEntry). l ++ fs) (let e : [] ≡ es = cc in e))
 joining-from (suc k) [] b es fs h p q = absurd (not-suc-le-zero h)
 joining-from (suc k) (x ∷ a) b es fs h p q = joining-from k a b es fs (le-of-suc-le-suc h) p q
@@ -74,5 +74,5 @@ joining-from zero (x ∷ a) b es fs h p q =
 pub joining : (a b : JournalRange) (es fs : List JournalEntry) → parseJournalRange a ≡ some es
     → parseJournalRange b ≡ some fs
     → parseJournalRange (a ++ b) ≡ some (es ++ fs)
-unfolding parseJournalRange
+unfolding parseJournalRangeAt
 joining a b es fs p q = joining-from 0 a b es fs (omega arith) p q

@@ -6,8 +6,8 @@ use Prim.Native.Nat.{ℕ, zero, suc, _-_}
 use lib.Dec.{leb}
 use lib.ListN.{length, take, drop}
 use Rattle.words.specs.Lists.{concatSeq}
-use Rattle.journal_entry.specs.Entry.{JournalEntry}
-use Rattle.journal_entry.specs.Parse.{_>>=_, provided, readWord, parseEntries}
+use Rattle.journal_entry.specs.Entry.{JournalEntry, valueLimit}
+use Rattle.journal_entry.specs.Parse.{_>>=_, provided, readWord, parseEntriesAt}
 
 abbrev pub JournalBlock : Type 0
 JournalBlock = List ℕ
@@ -23,23 +23,32 @@ parseHeader s = do
   some (nentries, nblocks)
 
 -- the entries of one batch, which is these blocks, behind its header; bytes after the last are ignored
-unfoldable pub parseJournalRangeOfBytes : (s : List ℕ) (nentries : ℕ) → Option (List JournalEntry)
-parseJournalRangeOfBytes s nentries = parseEntries nentries (drop 8 s)
+unfoldable pub parseJournalRangeOfBytesAt : (limit : ℕ) (s : List ℕ) (nentries : ℕ) → Option (List JournalEntry)
+parseJournalRangeOfBytesAt limit s nentries = parseEntriesAt limit nentries (drop 8 s)
 
--- `parseFrom k jr` reads jr from its block k on: the first k blocks belong to a batch that is read already.
+-- `parseFromAt limit k jr` reads jr from its block k on: the first k blocks belong to a batch that is read already.
 -- (Recursion on the list itself; `parseJournalRange-cons` in proofs/ is the source's own recursion, on the blocks
 -- behind a batch.)
-unfoldable pub parseFrom : (k : ℕ) → JournalRange → Option (List JournalEntry)
-parseFrom k [] = some []
-parseFrom (suc k) (b ∷ bs) = parseFrom k bs
-parseFrom zero (b ∷ bs) = do
+unfoldable pub parseFromAt : (limit k : ℕ) → JournalRange → Option (List JournalEntry)
+parseFromAt limit k [] = some []
+parseFromAt limit (suc k) (b ∷ bs) = parseFromAt limit k bs
+parseFromAt limit zero (b ∷ bs) = do
   (nentries, nblocks) ← parseHeader b
   provided (leb 1 nblocks && leb nblocks (length (b ∷ bs))) do
-    es₁ ← parseJournalRangeOfBytes (concatSeq (take nblocks (b ∷ bs))) nentries
-    es₂ ← parseFrom (nblocks - 1) bs
+    es₁ ← parseJournalRangeOfBytesAt limit (concatSeq (take nblocks (b ∷ bs))) nentries
+    es₂ ← parseFromAt limit (nblocks - 1) bs
     some (es₁ ++ es₂)
 
 -- batch after batch; limits neither the blocks nor the entries of a whole range
-unfoldable pub parseJournalRange : JournalRange → Option (List JournalEntry)
-unfolding parseFrom
-parseJournalRange jr = parseFrom 0 jr
+unfoldable pub parseJournalRangeAt : (limit : ℕ) → JournalRange → Option (List JournalEntry)
+unfolding parseFromAt
+parseJournalRangeAt limit jr = parseFromAt limit 0 jr
+
+abbrev pub parseJournalRangeOfBytes : (s : List ℕ) (nentries : ℕ) → Option (List JournalEntry)
+parseJournalRangeOfBytes s nentries = parseJournalRangeOfBytesAt valueLimit s nentries
+
+abbrev pub parseFrom : (k : ℕ) → JournalRange → Option (List JournalEntry)
+parseFrom k jr = parseFromAt valueLimit k jr
+
+abbrev pub parseJournalRange : JournalRange → Option (List JournalEntry)
+parseJournalRange jr = parseJournalRangeAt valueLimit jr

@@ -85,7 +85,7 @@ fn mark_of(kind: Kind) -> u32
 // The most second bytes of the kind.
 pub fn second_limit(kind: Kind) -> usize
     ensures { λ r. ⌜ r ≡ secondLimit (isCloneKind kind) ⌝ }
-    ensures { λ r. ⌜ r ≤ 1024 ⌝ }
+    ensures { λ r. ⌜ r ≤ 16384 ⌝ }
 {
     match kind {
         Kind::Insert => journal_entry::VALUE_LIMIT,
@@ -96,7 +96,7 @@ pub fn second_limit(kind: Kind) -> usize
 // Writes an entry's wire form into the ring from `at` on: four pieces, one straight behind the other.
 fn put_form(ring: &mut [u8], at: usize, kind: Kind, first: &[u8], second: &[u8])
     requires { ⌜ (at < length (now ring)) × (8 + length (now first) + length (now second) ≤ length (now ring)) ⌝ }
-    requires { ⌜ (length (now first) ≤ 512) × (length (now second) ≤ 1024) ⌝ }
+    requires { ⌜ (length (now first) ≤ 512) × (length (now second) ≤ 16384) ⌝ }
     ensures { λ _. ⌜ now (ring .exit)
         ≡ overwritten (now (ring .entry)) at
         (wire (entryOf (isCloneKind kind) (now (first .entry)) (now (second .entry)))) ⌝ }

@@ -1,12 +1,12 @@
 -- The text of an image, by its length and by what strip answered. Assumes nothing.
 use mathlib.Core.Path.{_≡_, refl, sym, ap, ap₂, _∙_}
-use mathlib.Core.Bool.{true, false, _&&_, and-false}
+use mathlib.Core.Bool.{and-false}
 use mathlib.Core.Option.{Option, none, some}
-use mathlib.Core.List.{List, _++_}
+use mathlib.Core.List.{List}
 use Prim.Native.Nat.{ℕ, _+_, _-_, _*_, _/_, _%_, _≤_, _<_}
 use native.Mathlib.Omega.{arith}
 use borrow.Author.Tests.{le-leb, lt-leb, le-ltb}
-use lib.Dec.{leb, eqb}
+use lib.Dec.{eqb}
 use lib.ListN.{length, take, drop}
 use lib.Seq.{take-at}
 use Rattle.refusals.specs.Outcome.{Outcome, gives, refuses, refusesBlock}
@@ -16,14 +16,14 @@ use Rattle.journal_range.specs.Payload.{parsePayload, rangeOf}
 use Rattle.journal_range.proofs.Bounds.{payload-weighs}
 use Rattle.journal_image.specs.Image.{withoutChecksums}
 use Rattle.journal_image.specs.Strip.{stripCall, strippedOutput}
-use Rattle.journal_image.proofs.Outcomes.{Given, given-told, output-of}
+use Rattle.journal_image.proofs.Outcomes.{given-told, output-of}
 use Rattle.journal_image.proofs.Payloads.{length-without}
-use Rattle.listing.specs.Text.{entriesText, refusedText}
-use Rattle.listing.specs.Listing.{written, writtenIn, listedRefusal}
+use Rattle.listing.specs.Text.{refusedText}
+use Rattle.listing.specs.Listing.{written, listedRefusal}
 use Rattle.listing.specs.declared.Listed.{Listed}
 use Rattle.listing.specs.declared.Listed.the-variants.{Short}
 use Rattle.lister.specs.Lister.{andThen, stripped, unlessUnreadable, imageEntries, outcomeText, listing}
-use Rattle.lister.specs.Lister.{roomSuffices, listedRange, listedPayload, listedImage}
+use Rattle.lister.specs.Lister.{listedRange, listedPayload, listedImage}
 
 -- ---- lent buffers that are too short
 

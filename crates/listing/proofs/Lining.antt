@@ -7,7 +7,7 @@ use native.Mathlib.Omega.{arith}
 use lib.ListN.{length, take, drop}
 use lib.Seq.{take-all}
 use Rattle.journal_entry.specs.Entry.{JournalEntry, entryOf}
-use Rattle.journal_entry.specs.Parse.{_>>=_, readEntries}
+use Rattle.journal_entry.specs.Parse.{_>>=_, readEntries, readEntriesAt}
 use Rattle.journal_entry.specs.Places.{isCloneKind, entryAt, entryAtPlace, part, placeAt}
 use Rattle.journal_entry.specs.declared.EntryPlace.{EntryPlace}
 use Rattle.journal_entry.specs.declared.EntryRead.the-variants.{Read, Unreadable}
@@ -74,7 +74,7 @@ lining-starts s count d₀ at r fits = record {
 module _ {s : List ℕ} {count : ℕ} {d₀ : List ℕ} {at : ℕ} {d : List ℕ} {here left to : ℕ}
     (w : Lining s count d₀ at d here left to) where
   pub lining-ends : left ≡ 0 → Put d₀ at (linesOf (readEntries count s)) d to
-  unfolding readEntries entryLines
+  unfolding readEntriesAt entryLines
   lining-ends e =
       putting-end (w .putting) (ap (λ (n : ℕ). linesOf (readEntries n (part s here (length s)))) e)
 
@@ -93,7 +93,7 @@ module _ {s : List ℕ} {count : ℕ} {d₀ : List ℕ} {at : ℕ} {d : List ℕ
       rest = readEntries (left - 1) (part s (p .next) (length s))
 
       step : readEntries left (part s here (length s)) ≡ with (entryAtPlace s p) rest
-      unfolding readEntries rest
+      unfolding readEntriesAt rest
       step =
           ap (λ (n : ℕ). readEntries n (part s here (length s))) (sym one-more)
           ∙ rw (bridge-read s here (length s) p e .parses)

@@ -1,11 +1,11 @@
 -- A record and its words: what was stored decodes as it was, and words that decode are the record's own. Assumes
 -- nothing.
 use mathlib.Core.Path.{_≡_, refl, sym, ap, _∙_}
-use mathlib.Core.Bool.{Bool, true, false, cond, _&&_}
+use mathlib.Core.Bool.{Bool, true, false, cond}
 use mathlib.Core.List.{List, [], _∷_, _++_}
 use Prim.Native.Nat.{ℕ, zero, suc, _+_, _≤_}
 use native.Mathlib.Omega.{arith}
-use lib.Dec.{leb, eqb}
+use lib.Dec.{eqb}
 use lib.ListN.{length, take, drop, getD}
 use lib.Seq.{drop-cons}
 use borrow.Author.Tests.{le-leb, leb-true, eqb-true}
@@ -15,7 +15,6 @@ use Rattle.journalist.specs.Recovery.{sideBlocks}
 use Rattle.journalist.specs.declared.Journalist.{Journalist}
 use Rattle.journalist.specs.declared.Side.{Side}
 use Rattle.journalist.specs.declared.Side.the-variants.{Absent, Blocks}
-use Rattle.record_words.specs.declared.Decoded.{Decoded}
 use Rattle.record_words.specs.declared.Decoded.the-variants.{Damaged, Of}
 use Rattle.record_words.specs.Words.{layout, wordCount, flagOf, wordsOf, sideReads, sideOf, wordsRead, recordAt}
 use Rattle.record_words.specs.Words.{decodeOf}
