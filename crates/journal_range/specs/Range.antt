@@ -1,4 +1,5 @@
--- A range of payload blocks, and the entries that it reads as: BlockCacheSystem/JournalRange.i.dfy. Assumes nothing.
+-- A range of payload blocks, and the entries that it reads as, over the limit of values (`Entry` in journal_entry):
+-- BlockCacheSystem/JournalRange.i.dfy. Assumes nothing.
 use mathlib.Core.Bool.{_&&_}
 use mathlib.Core.List.{List, [], _∷_, _++_}
 use mathlib.Core.Option.{Option, some}
