@@ -9,7 +9,7 @@ use lib.ListN.{length, take, length-append}
 use lib.Seq.{take-at}
 use Rattle.refusals.specs.Outcome.{gives}
 use Rattle.journal_entry.specs.Entry.{JournalEntry, valueLimit, AllWithin, SumJournalEntries, wires}
-use Rattle.journal_entry.proofs.Reading.{sum-append, wires-append, within-append}
+use Rattle.journal_entry.proofs.Reading.{sum-append, wires-append, within-append, within-split}
 use Rattle.journalist.specs.declared.Last.{Last}
 use Rattle.journalist.specs.Updates.{moved}
 use Rattle.journalist.specs.Record.{blocksFor, thawedRecord}
@@ -20,8 +20,7 @@ use Rattle.journalist.proofs.CallLaws.{thaw-taken}
 use Rattle.history.specs.Lists.{freezing, thawing, lastMoved}
 use Rattle.history.specs.Calls.{leaves}
 use Rattle.history.specs.History.{World, following, countsOf}
-use Rattle.history.proofs.Counts.{counts-joined, counts-less, weight-of, freeze-same, within-front}
-use Rattle.history.proofs.Counts.{within-behind}
+use Rattle.history.proofs.Counts.{counts-joined, counts-less, weight-of, freeze-same}
 use Rattle.history.proofs.Invariant.{Invariant, after-call}
 use Rattle.history.proofs.Steps.{sum}
 
@@ -110,7 +109,7 @@ module _ (n : ℕ) (w : World) (i : Invariant n w) where
       omega (arith, sum-append moves m, sum-append (i .stays) moves, ap SumJournalEntries (i .frozen-split)) in
       let forms : wires (i .stays) ++ wires (moves ++ m) ≡ wires (w .lists .frozen) ++ wires m =
       sym (wires-append (i .stays) (moves ++ m)) ∙ ap wires order ∙ wires-append (w .lists .frozen) m in
-      let all-within : AllWithin (i .stays ++ moves) = subst AllWithin (i .frozen-split) (i .frozen-within) in
+      let split = within-split valueLimit (i .stays) moves (subst AllWithin (i .frozen-split) (i .frozen-within)) in
       record {
         after = record {
           images-whole = a .images-whole;
@@ -129,8 +128,8 @@ module _ (n : ℕ) (w : World) (i : Invariant n w) where
         blocks-are = i .blocks-are;
         hangs = thawed-hangs j (i .hangs);
         ring-long = i .ring-long;
-        frozen-within = rw stays-left (within-front (i .stays) moves all-within);
-        memory-within = within-append valueLimit moves m (within-behind (i .stays) moves all-within) (i .memory-within);
+        frozen-within = rw stays-left (split .0);
+        memory-within = within-append valueLimit moves m (split .1) (i .memory-within);
         stays = i .stays;
         frozen-split = rw (stays-left, append-nil) refl;
         last-holds = omega arith;

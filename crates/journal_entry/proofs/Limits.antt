@@ -3,7 +3,7 @@
 use mathlib.Core.Path.{_≡_, sym, subst}
 use mathlib.Core.Bool.{true}
 use mathlib.Core.Option.{some}
-use mathlib.Core.List.{List, [], _∷_, _++_}
+use mathlib.Core.List.{List, [], _∷_}
 use Prim.Native.Nat.{ℕ, zero, suc, _-_, _≤_}
 use native.Mathlib.Omega.{arith}
 use lib.Dec.{leb}
@@ -22,11 +22,6 @@ heaviest (JournalInsert key value) w = omega (arith, w .first-fits, w .second-fi
 heaviest (JournalClone from to) w = omega (arith, w .first-fits, w .second-fits)
 
 -- Lists within a limit.
-
-pub within-split : (limit : ℕ) (xs ys : List JournalEntry) → AllWithinAt limit (xs ++ ys)
-    → AllWithinAt limit xs × AllWithinAt limit ys
-within-split limit [] ys w = (tt, w)
-within-split limit (x ∷ xs) ys w = let (v, u) = within-split limit xs ys (w .1) in ((w .0, v), u)
 
 -- a larger limit takes what a smaller one takes
 pub all-larger : (a b : ℕ) → a ≤ b → (es : List JournalEntry) → AllWithinAt a es → AllWithinAt b es

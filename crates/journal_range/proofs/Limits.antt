@@ -13,8 +13,8 @@ use Rattle.words.specs.Lists.{chunks, concatSeq}
 use Rattle.journal_entry.specs.Entry.{JournalEntry, valueLimit, AllWithinAt, AllWithin, HasLonger}
 use Rattle.journal_entry.specs.Parse.{parseEntriesAt}
 use Rattle.journal_entry.proofs.Options.{T→true, by-order, bind-parts, provided-parts}
-use Rattle.journal_entry.proofs.Reading.{within-append}
-use Rattle.journal_entry.proofs.Limits.{within-split, all-larger, longer-out, none-longer, entries-within}
+use Rattle.journal_entry.proofs.Reading.{within-append, within-split}
+use Rattle.journal_entry.proofs.Limits.{all-larger, longer-out, none-longer, entries-within}
 use Rattle.journal_entry.proofs.Limits.{entries-again}
 use Rattle.journal_range.specs.Range.{JournalRange, parseHeader, parseJournalRangeOfBytesAt, parseFromAt}
 use Rattle.journal_range.specs.Range.{parseJournalRangeAt, parseJournalRange}
