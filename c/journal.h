@@ -22,7 +22,7 @@
 extern "C" {
 #endif
 
-#define JOURNAL_LIBRARY_VERSION "0.4.0"
+#define JOURNAL_LIBRARY_VERSION "0.5.0"
 
 /* A code's number; and of JOURNAL_CHECKSUM_DIFFERS the lowest block that differs. */
 #define JOURNAL_NUMBER(code) ((code) & 255)
@@ -55,7 +55,7 @@ extern "C" {
 #define JOURNAL_MOST_BLOCKS 1024      /* of a region */
 #define JOURNAL_MOST_RING 8388608     /* bytes of a ring; one of JOURNAL_PAYLOAD x N never refuses with 6 */
 #define JOURNAL_FIRST_LIMIT 512       /* bytes of an insert's key, of a clone's from */
-#define JOURNAL_VALUE_LIMIT 1024      /* bytes of an insert's value */
+#define JOURNAL_VALUE_LIMIT 16384     /* bytes of an insert's value */
 #define JOURNAL_TO_LIMIT 512          /* bytes of a clone's to */
 
 /* The record: so many 64-bit words that the caller keeps as they are between calls. Words behind these are neither

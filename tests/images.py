@@ -5,17 +5,19 @@ the lister prints as far as the maker knows it without reading the image: None l
 """
 import argparse
 import collections
+import os
 import random
 import sys
 
 sys.dont_write_bytecode = True      # nothing is left in the folder
 
-from batches import (AB, ALL_BYTES, CLONED, EMPTY, FIRST, LONGEST, TO, VALUE, WORDS, batches_at_random, entry,
-                     entry_weighing, filling, fitting, joined, known)
+from batches import (AB, ALL_BYTES, CLONED, EMPTY, FIRST, LONGEST, SEVERAL, TO, VALUE, WORDS, batches_at_random,
+                     ending, entry_weighing, filling, fitting, joined, known)
 from damage import checksum_damage, damaged, head_damage, payload_damage, second_head_damage, torn, two_damaged
 from writer import batch, flip, form, image, put, refused, seal, text, weight, word
 
 Image = collections.namedtuple('Image', 'kind data known')
+STORED = os.path.join(os.path.dirname(os.path.abspath(__file__)), 'stored')
 
 # The kinds of the gate. Each gives (data, known).
 
@@ -41,7 +43,7 @@ def cases(rng):
 def one_batch(rng):
     """Any entries, in as many blocks as needed or more."""
     for _ in range(100):
-        blocks = rng.choice([1, 1, 1, 2, 3, 4])
+        blocks = rng.choice([1, 1, 1, 2, 3, 4, 6])
         entries = fitting(rng, 4064 * blocks - 8)
         yield image(batch(entries, blocks)), text(entries)
     for entries in ([('I', ALL_BYTES, ALL_BYTES[::-1])], [('C', ALL_BYTES[::-1], ALL_BYTES)],
@@ -77,7 +79,7 @@ def many_batches(rng):
 def full(rng):
     """Not a byte left over."""
     for blocks in (1, 2, 3, 14, 15):
-        for most in (LONGEST, 40):
+        for most in (LONGEST, SEVERAL, 40):
             batches = [(filling(rng, 4064 * blocks - 8, most), blocks)]
             yield seal(joined(batches)), known(batches)
             batches = [(filling(rng, 4056, most), 1) for _ in range(blocks)]
@@ -86,9 +88,13 @@ def full(rng):
         yield seal(joined(batches)), known(batches)
         batches = [([EMPTY] * 507, 1)] * blocks
         yield seal(joined(batches)), known(batches)
-    longest = [('I', rng.randbytes(FIRST), rng.randbytes(VALUE)) for _ in range(39)]
-    batches = [(longest + filling(rng, 60952 - weight(longest)), 15)]
-    yield seal(joined(batches)), known(batches)
+    # the longest values, with the longest keys and with none, in one batch and in three
+    for first in (FIRST, 0):
+        longest = [('I', rng.randbytes(first), rng.randbytes(VALUE)) for _ in range(3)]
+        batches = [(longest + filling(rng, 60952 - weight(longest)), 15)]
+        yield seal(joined(batches)), known(batches)
+        batches = [(filling(rng, 20312 - weight([one])) + [one], 5) for one in longest]
+        yield seal(joined(batches)), known(batches)
 
 
 def sizes(rng):
@@ -160,8 +166,9 @@ def count_word(rng):
 def lengths(rng):
     """Each limit and one past it, with the bytes all there, and numbers far off."""
     firsts = (0, 1, 511, 512, 513, 514)
-    tried = [('I', first, second) for first in firsts for second in (0, 1, 1023, 1024, 1025, 1026)]
-    tried += [('C', first, second) for first in firsts for second in (0, 1, 511, 512, 513, 514, 1024)]
+    seconds = (0, 1, 1023, 1024, 1025, 1026, 4063, 4064, 4065, 8128, 16383, 16384, 16385, 16386)
+    tried = [('I', first, second) for first in firsts for second in seconds]
+    tried += [('C', first, second) for first in firsts for second in (0, 1, 511, 512, 513, 514, 1024, 16384)]
     for kind, first, second in tried:
         entries = [(kind, rng.randbytes(first), rng.randbytes(second)), AB]
         good = first <= FIRST and second <= (VALUE if kind == 'I' else TO)
@@ -177,14 +184,24 @@ def lengths(rng):
         forms = form(AB) + word(number) + bytes(9000)
         yield image(batch([AB, AB], 3, forms=forms)), refused(14) if 512 < number < 4096 or number > 4608 else None
     # a second length word of any number
+    second = rng.randbytes(17000)
     for number in WORDS:
         for kind, most in (('I', VALUE), ('C', TO)):
-            second = rng.randbytes(2000)
             forms = form((kind, b'first', second), second_length=number)
             read = [(kind, b'first', second[:number])]
             good = number <= most
-            yield image(batch(read, 1, forms=forms)), text(read) if good else refused(14)
-            yield image(batch([AB] + read, 1, forms=form(AB) + forms)), text([AB] + read) if good else refused(14)
+            yield image(batch(read, 5, forms=forms)), text(read) if good else refused(14)
+            yield image(batch([AB] + read, 5, forms=form(AB) + forms)), text([AB] + read) if good else refused(14)
+
+
+def values(rng):
+    """Values about the length of a block's payload and of two, and about the limits of 1,024 and 16,384 bytes: they
+    start at many places of a block."""
+    for length in (1023, 1024, 1025, 4063, 4064, 4065, 8127, 8128, 8129, 12192, 16383, 16384, 16385, 16386):
+        for place in (0, 1, 7, 8, 12, 13, 2032, *range(4055, 4064)):
+            key = rng.randbytes(rng.choice([0, 7, FIRST]))
+            entries = ending(rng, place - 8 - len(key)) + [('I', key, rng.randbytes(length)), AB]
+            yield image(batch(entries)), text(entries) if length <= VALUE else refused(14)
 
 
 def crossing(rng):
@@ -195,11 +212,11 @@ def crossing(rng):
         middling = (kind, rng.randbytes(40), rng.randbytes(60))
         longest = (kind, rng.randbytes(FIRST), rng.randbytes(VALUE if kind == 'I' else TO))
         end = weight([longest])
-        some = [*range(0, 6), *range(6, end, 97), *range(514, 522), *range(end - 4, end + 1)]
+        some = [*range(0, 6), *range(6, end, end // 16), *range(514, 522), *range(end - 4, end + 1)]
         for over, befores in ((odd, range(0, 21)), (middling, range(0, 109)), (longest, some)):
-            for before in befores:                      # so many of its bytes lie before the block's end
-                entries = filling(rng, 4056 - before) + [over, AB]
-                yield image(batch(entries, 2)), text(entries)
+            for before in befores:                      # so many of its bytes lie before a block's end
+                entries = ending(rng, -before) + [over, AB]
+                yield image(batch(entries)), text(entries)
                 if over is odd:
                     fits = before == weight([over])
                     forms = b''.join(form(one) for one in entries[:-1])[:4056]
@@ -213,7 +230,7 @@ def crossing(rng):
             entries = filling(rng, 4064 * block - 8 - before) + [odd] + [AB] * 2
             yield image(batch(entries, 15)), text(entries)
     # entries across every end at once: the header's 8 bytes do not recur
-    for total in (100, 1000, 1544, 9, 11, 13):
+    for total in (100, 1000, 1544, 4000, 6000, 9, 11, 13):
         entries = [entry_weighing(rng, total) for _ in range(12192 // total - 1)]
         yield image(batch(entries)), text(entries)
 
@@ -275,17 +292,29 @@ def garbage(rng):
         yield seal(word(rng.randint(0, 3)) + word(blocks) + rng.randbytes(4064 * blocks - 8)), None
         # length words that are often good, with any bytes between
         forms = b''
+        blocks = rng.choice([2, 2, 6])
         while len(forms) < 3000:
             number = rng.choice([0, 1, 5, 50, 511, 512, 512, 513, 4095]) + rng.choice([0, 4096])
             forms += word(number) + rng.randbytes(min(number % 4096, 513))
-            second = rng.choice([0, 1, 50, 512, 512, 513, 1024, 1024, 1025])
+            second = rng.choice([0, 1, 50, 512, 512, 513, 1024, 1025, 5000, 16384, 16385])
             forms += word(second) + rng.randbytes(second)
-        yield image(batch([], 2, count=rng.randint(1, 4), forms=forms[:8000])), None
+        yield image(batch([], blocks, count=rng.randint(1, 4), forms=forms[:4000 * blocks])), None
     good = batch([AB])
     for _ in range(10):                                 # a garbage block among good ones
         blocks = [good] * 4
         blocks[rng.randint(0, 3)] = rng.randbytes(4064)
         yield image(*blocks), None
+
+
+def stored(rng):
+    """Images that version 0.4.0 of the library packaged, and what its lister printed of each, folded: a line that
+    starts with a blank goes on the one before. Units have such images in store, and each reads as it did then. They
+    are never made anew: those of a later version would show only that it reads what it writes."""
+    for name in sorted(os.listdir(STORED)):
+        path, _, kind = os.path.join(STORED, name).rpartition('.')
+        if kind == 'image':
+            with open(path + '.image', 'rb') as data, open(path + '.listing', 'rb') as listing:
+                yield data.read(), listing.read().replace(b'\n ', b'')
 
 
 def random_damage(rng):
@@ -295,8 +324,8 @@ def random_damage(rng):
 
 
 KINDS = [empty, cases, one_batch, numbers_of_entries, many_batches, full, sizes, head_damage, second_head_damage,
-         checksum_damage, payload_damage, two_damaged, torn, blocks_word, count_word, lengths, crossing, ends,
-         no_entries, bytes_after, garbage, random_damage]
+         checksum_damage, payload_damage, two_damaged, torn, blocks_word, count_word, lengths, values, crossing, ends,
+         no_entries, bytes_after, garbage, stored, random_damage]
 
 
 def gate(seed=1):

@@ -1,10 +1,11 @@
 """Feeds images to the lister and compares what it prints, byte for byte, with what the reader says; and has its
-input and its output fail.
+input and its output fail. A reader whose values have at most 1,024 bytes refuses longer ones with 14, and says the
+same of every other image.
 
 python3 tests/lister_test.py PATH_TO_LISTER [--many N] [--seed S]
 
 Ends with status 1 at the first difference, with the image in target/ of the current directory, or if one of the
-outcomes was never seen.
+outcomes, a longer value, one that both read, or a stored image was never seen.
 """
 import argparse
 import collections
@@ -25,6 +26,7 @@ import writer
 
 SECONDS = 60            # for one image
 OUTCOMES = ('entries', 'refused 11', 'refused 12', 'refused 13', 'refused 14')
+SHORTER = 1024          # the most bytes of a value for "a reader still at 1,024"
 
 # RFC 3720, B.4
 VECTORS = [(bytes(32), 'aa36918a'), (b'\xff' * 32, '43aba862'), (bytes(range(32)), '4e79dd46'),
@@ -88,11 +90,22 @@ def fail(number, image, message):
     sys.exit('lister_test: FAILED: ' + message)
 
 
+def by_shorter(number, image, wanted):
+    """What the reader at the shorter limit says is right; returns whether it and the other read the image."""
+    inserts = (line.split() for line in wanted.splitlines() if line.startswith(b'I'))
+    longer = any(len(value) > 2 * SHORTER for _, _, value in inserts)
+    said = reader.listing(image.data, SHORTER)
+    if said != (writer.refused(14) if longer else wanted):
+        fail(number, image, 'the reader at %d says %s' % (SHORTER, shown(said)))
+    return 'longer value' if longer else 'read by both' if wanted.startswith(b'entries') else 'refused by both'
+
+
 def compare(path, number, image, rng):
-    """Feeds one image; returns the outcome."""
+    """Feeds one image; returns the outcome, and that by the shorter limit."""
     wanted = reader.listing(image.data)
     if image.known is not None and image.known != wanted:
         fail(number, image, 'the reader says %s, the image was made for %s' % (shown(wanted), shown(image.known)))
+    shorter = by_shorter(number, image, wanted)
     feed = feeding(number)
     signal.alarm(SECONDS)
     try:
@@ -107,7 +120,8 @@ def compare(path, number, image, rng):
     if ended.returncode != 0:
         fail(number, image, 'ended with status %d (%s)' % (ended.returncode, feed.__name__))
     words = wanted.split(None, 2)
-    return 'entries' if words[0] == b'entries' else b' '.join(words[:2]).decode()
+    outcome = 'entries' if words[0] == b'entries' else b' '.join(words[:2]).decode()
+    return outcome, shorter
 
 
 def broken_off(path, data):
@@ -164,18 +178,20 @@ def main():
     failing(path)
     signal.alarm(0)
     rng = random.Random(given.seed)
-    kinds, outcomes, fed = (collections.Counter() for _ in range(3))
+    kinds, outcomes, shorter, fed = (collections.Counter() for _ in range(4))
     began = time.monotonic()
     for made in (images.gate(given.seed), images.many(given.many, given.seed)):
         for image in made:
             number = sum(kinds.values())
-            outcomes[compare(path, number, image, rng)] += 1
+            for counter, outcome in zip((outcomes, shorter), compare(path, number, image, rng)):
+                counter[outcome] += 1
             kinds[image.kind] += 1
             fed[feeding(number).__name__.replace('_', ' ')] += 1
 
-    for title, counter in (('kinds', kinds), ('outcomes', outcomes), ('fed', fed)):
+    for title, counter in (('kinds', kinds), ('outcomes', outcomes), ('at 1,024', shorter), ('fed', fed)):
         print('lister_test: %s: %s' % (title, ', '.join('%s %d' % item for item in sorted(counter.items()))))
-    unseen = [outcome for outcome in OUTCOMES if not outcomes[outcome]]
+    wanted = [(outcomes, OUTCOMES), (shorter, ('longer value', 'read by both')), (kinds, ('stored',))]
+    unseen = [name for counter, names in wanted for name in names if not counter[name]]
     if unseen:
         sys.exit('lister_test: FAILED: never seen: ' + ', '.join(unseen))
     print('lister_test: %d images, no difference, %d s' % (sum(kinds.values()), time.monotonic() - began))

@@ -1,4 +1,4 @@
-"""A reader of images, written from document 01 alone: an image's bytes in, the text that the lister must print out.
+"""A reader of images, written from the documents alone: an image's bytes in, the text that the lister must print out.
 
 It shares nothing with the lister, nor with the writer beside it. By hand: python3 tests/reader.py <IMAGE
 """
@@ -10,8 +10,8 @@ CHECKSUM = 32
 PAYLOAD = 4064
 MOST_INPUT = 61440      # "Over 61,440 bytes: `refused 13`"
 MOST_FIRST = 512        # "First bytes: at most 512."
-MOST_VALUE = 1024       # "Second bytes: at most 1,024 in an insert,
-MOST_TO = 512           # 512 in a clone."
+MOST_VALUE = 16384      # "Raise the value limit of inserts to 16,384" (document 02, paper 4)
+MOST_TO = 512           # "Second bytes: [..] 512 in a clone."
 CLONE = 4096            # "a 32-bit first length (plus 4096 in a clone)"
 
 
@@ -77,7 +77,7 @@ class Pieces:
         return int.from_bytes(self.take(4), 'little')
 
 
-def read_entry(pieces):
+def read_entry(pieces, most_value):
     """A wire form: "a 32-bit first length (plus 4096 in a clone), first bytes, 32-bit second length,
     second bytes"."""
     length = pieces.word()
@@ -88,13 +88,13 @@ def read_entry(pieces):
         raise Refused(14)
     first = pieces.take(length)
     length = pieces.word()
-    if length > (MOST_TO if clone else MOST_VALUE):
+    if length > (MOST_TO if clone else most_value):
         raise Refused(14)
     second = pieces.take(length)
     return 'C' if clone else 'I', first, second
 
 
-def read_range(payload):
+def read_range(payload, most_value=MOST_VALUE):
     """A range: "each batch is read, and the reader goes on with the part that starts after it"."""
     entries = []
     while payload:
@@ -105,23 +105,24 @@ def read_range(payload):
         batch = Pieces(payload[:PAYLOAD * blocks])
         batch.take(8)
         for _ in range(count):
-            entries.append(read_entry(batch))
+            entries.append(read_entry(batch, most_value))
         # "Bytes after a batch's last entry are ignored."
         payload = payload[PAYLOAD * blocks:]
     return entries
 
 
-def entries_of(image):
+def entries_of(image, most_value=MOST_VALUE):
     """The image's entries, or Refused."""
     if len(image) > MOST_INPUT:
         raise Refused(13)
-    return read_range(strip(image))
+    return read_range(strip(image), most_value)
 
 
-def listing(image):
-    """The lister's text: the entries, or "`refused` and its number alone"."""
+def listing(image, most_value=MOST_VALUE):
+    """The lister's text: the entries, or "`refused` and its number alone". Of a value longer than `most_value`: "A
+    reader still at 1,024 gives 14 on a longer value, never a short one"."""
     try:
-        entries = entries_of(image)
+        entries = entries_of(image, most_value)
     except Refused as refused:
         return b'refused %d\n' % refused.number
     lines = ['entries %d' % len(entries)]

@@ -63,6 +63,16 @@ def needed(part):
     return -(-(8 + writer.weight(part)) // 4064) if part else 0
 
 
+def ends_crossed(entries):
+    """The most block ends that the second bytes of one cross."""
+    most, place = 0, 8
+    for _, first, second in entries:
+        start = place + 8 + len(first)
+        place = start + len(second)
+        most = max(most, (place - 1) // 4064 - start // 4064)
+    return most
+
+
 def compare(number, entries, blocks, image):
     what = 'image %d, of %d entries and %d blocks: ' % (number, len(entries), blocks)
     wanted = writer.image(writer.batch(entries, blocks))
@@ -104,6 +114,7 @@ def main():
         seen['from memory'] += packaging == 'M'
         seen['frozen'] += packaging == 'F' and len(parts) == 1
         seen['frozen in parts'] += packaging == 'F' and len(parts) > 1
+        seen['with a value across several ends'] += ends_crossed(entries) > 1
         seen['full to the last byte'] += left == 0
         seen['with a block of zeros'] += left >= 4064
         seen['over 61,440 bytes'] += len(image) > reader.MOST_INPUT

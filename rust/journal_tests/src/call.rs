@@ -1,4 +1,4 @@
-//! A call on the record or on a card, or strip, as a value: it is made of the library, of the model or of
+//! A call on the record or on a card, strip or range, as a value: it is made of the library, of the model or of
 //! the plain Rust implementation.
 use crate::memory::{Lent, Memory, Slices};
 use crate::model::plain;
@@ -11,6 +11,7 @@ mod model {
         find as card_find, format as card_format, release as card_release, store as card_store,
     };
     pub use crate::model::journalist::*;
+    pub use crate::model::reading::range;
 }
 
 #[derive(Clone, Copy, Debug, PartialEq, Eq, PartialOrd, Ord)]
@@ -31,6 +32,8 @@ pub enum Call {
     UpdateWritten(u64),
     /// The image is read, and its payload is written.
     Strip,
+    /// Front and back are read, and their totals are the answer.
+    Range,
     /// The payload is read, and front or back is written.
     SetFront,
     SetBack,
@@ -103,6 +106,7 @@ macro_rules! made {
             SetWritten(len) => of::set_written(words, len),
             UpdateWritten(len) => of::update_written(words, len),
             Strip => of::strip(a, written),
+            Range => of::range(a, b, answer),
             SetFront => of::set_front(words, a, written),
             SetBack => of::set_back(words, a, written),
             Load => of::load(words, a, b, written),
@@ -150,6 +154,7 @@ impl Call {
             SetWritten(_) => &[2, 7, 10],
             UpdateWritten(_) => &[2, 10],
             Strip => &[11, 9, 12],
+            Range => &[14, 9],
             SetFront | SetBack => &[2, 13, 9],
             Load => &[2, 14, 9],
             Top => &[2, 8, 14, 9],

@@ -5,3 +5,4 @@ pub mod guarded;
 pub mod memory;
 pub mod model;
 pub mod random;
+pub mod tally;

@@ -76,6 +76,8 @@ struct Seen {
     thawed: usize,
     cut: usize,
     just_live: usize,
+    /// Of what was replayed, values that are longer than two blocks' payload.
+    long: usize,
 }
 
 /// A new record that has replayed what was found, so many blocks of it as front.
@@ -110,7 +112,9 @@ fn recover(card: &Card, r: usize, seen: &mut Seen) -> Journal {
     for front in 0..blocks {
         assert_eq!(replay(card, r, &found, front), journal);
     }
-    seen.replayed += card.live.iter().map(|batch| batch.entries.len()).sum::<usize>();
+    let entries = || card.live.iter().flat_map(|batch| &batch.entries);
+    seen.replayed += entries().count();
+    seen.long += entries().filter(|entry| entry.second.len() > 2 * PAYLOAD).count();
     seen.wrapped += usize::from(card.start() + blocks > card.blocks());
     seen.crossed += usize::from(card.crosses());
     journal
@@ -219,13 +223,13 @@ fn lives_of_units() {
         let mut card = Card::new(n, random);
         let r = random.one_of(&[1_000, 10_000, PAYLOAD * n]);
         for _ in 0..25 {
-            let most = random.one_of(&[3, 300, 1_024, 1_024]);
+            let most = random.one_of(&[3, 300, 1_024, 16_384]);
             live(&mut card, r, most, random, &mut seen);
         }
     }
     println!("{seen:?}");
-    let Seen { replayed, wrapped, crossed, dropped, full, thawed, cut, just_live } = seen;
+    let Seen { replayed, wrapped, crossed, dropped, full, thawed, cut, just_live, long } = seen;
     assert!(replayed > 50_000 && wrapped > 500 && crossed > 100, "{seen:?}");
     assert!(dropped > 1_000 && full > 1_000 && thawed > 1_000, "{seen:?}");
-    assert!(cut > 100 && just_live > 100, "{seen:?}");
+    assert!(cut > 100 && just_live > 100 && long > 200, "{seen:?}");
 }

@@ -1,118 +1,13 @@
 //! Append and the packagings, of the library and of the plain Rust implementation, against the model:
 //! entries that wrap at every byte of a ring, lists that end around a block's end, and the largest.
-//! What is packaged is read again. A record is given as its words, so that any start can be had.
-use journal_tests::call::{compared, Call, Call::*};
-use journal_tests::memory::{Lent, Memory};
+//! What is packaged is read again.
+use journal_tests::call::Call::*;
 use journal_tests::model::block::{BLOCK, HEAD, PAYLOAD};
-use journal_tests::model::record::{LAYOUT, WORDS};
+use journal_tests::model::crc;
 use journal_tests::model::writing::{self, Entry};
-use journal_tests::model::{crc, entries};
 use journal_tests::random::Random;
+use journal_tests::tally::{forms, needed, Journal, Tally, FROZEN, HELD, MEMORY};
 use nungakes::calls;
-use std::collections::BTreeMap;
-
-/// How often each number was given.
-#[derive(Default)]
-struct Tally {
-    memory: Memory,
-    given: BTreeMap<u64, usize>,
-}
-
-impl Tally {
-    /// What the call gives, and what it leaves of the written bytes.
-    fn call(&mut self, call: Call, lent: Lent) -> (u64, Lent) {
-        let ways = [&Call::of_plain as _, &Call::of_library as _];
-        let code = compared(&mut self.memory, call, &lent, &ways).unwrap_or_else(|e| panic!("{e}"));
-        *self.given.entry(code).or_default() += 1;
-        (code, self.memory.lent())
-    }
-
-    /// Appends to a journal, if that is not refused.
-    fn append(&mut self, journal: &mut Journal, entry: &Entry) -> u64 {
-        let Entry { is_clone, first, second } = entry.clone();
-        let call = if is_clone { AppendClone } else { AppendInsert };
-        let Journal { words, ring } = std::mem::take(journal);
-        let lent = Lent { read: [first, second], written: ring, words, answer: vec![] };
-        let (code, Lent { words, written: ring, .. }) = self.call(call, lent);
-        *journal = Journal { words, ring };
-        code
-    }
-
-    /// Packages a list to an output with this room. An image reads as the entries.
-    fn package(&mut self, journal: &Journal, call: Call, room: usize, list: &[Entry]) -> u64 {
-        let Journal { words, ring } = journal.clone();
-        let read = [ring, vec![]];
-        let lent = Lent { read, written: vec![0xA5; room], words, answer: vec![] };
-        let (code, Lent { words, written: mut image, .. }) = self.call(call, lent);
-        if code == 0 {
-            let blocks = (words[8] - journal.words[8]) as usize;
-            image.truncate(BLOCK * blocks);
-            let mut payload = vec![0; PAYLOAD * blocks];
-            assert_eq!(calls::strip(&image, &mut payload), 0);
-            assert!(entries::range(&payload).is_some_and(|read| read == list), "other entries");
-        }
-        code
-    }
-
-    /// These were the numbers, and there were so many calls.
-    fn ends(&self, numbers: &[u64], at_least: usize) {
-        assert!(self.given.keys().eq(numbers), "{:?}", self.given);
-        let calls: usize = self.given.values().sum();
-        assert!(calls >= at_least, "{calls} calls");
-    }
-}
-
-/// A record and its ring.
-#[derive(Clone, Default)]
-struct Journal {
-    words: Vec<u64>,
-    ring: Vec<u8>,
-}
-
-/// The words of the frozen list, of the one in memory, of the frozen blocks and of the clones.
-const FROZEN: usize = 4;
-const MEMORY: usize = 6;
-const HELD: usize = 9;
-const CLONES: usize = 17;
-
-impl Journal {
-    /// An empty one, whose pending bytes will start at a place. No length word has a byte of its ring.
-    fn new(n: usize, r: usize, start: usize) -> Self {
-        let mut words = vec![0; WORDS];
-        words[0] = LAYOUT;
-        words[1..4].copy_from_slice(&[n, r, start].map(|n| n as u64));
-        Journal { words, ring: vec![0xA5; r] }
-    }
-
-    /// With a list that is in its ring, and counted where `list` says; `held` blocks are frozen.
-    fn holding(
-        n: usize,
-        r: usize,
-        start: usize,
-        list: usize,
-        entries: &[Entry],
-        held: usize,
-    ) -> Self {
-        let mut journal = Journal::new(n, r, start);
-        let forms = forms(entries);
-        journal.words[list] = entries.len() as u64;
-        journal.words[list + 1] = forms.len() as u64;
-        journal.words[HELD] = held as u64;
-        journal.words[CLONES] = entries::clones(entries);
-        for (i, byte) in forms.into_iter().enumerate() {
-            journal.ring[(start + i) % r] = byte;
-        }
-        journal
-    }
-}
-
-fn forms(entries: &[Entry]) -> Vec<u8> {
-    entries.iter().flat_map(Entry::wire_form).collect()
-}
-
-fn needed(bytes: usize) -> usize {
-    (8 + bytes).div_ceil(PAYLOAD)
-}
 
 /// None, one short of the blocks, exactly that, one more, and a block more.
 fn rooms(blocks: usize) -> [usize; 5] {
@@ -170,16 +65,22 @@ fn small_entries_in_every_small_ring() {
     tally.ends(&[0, 2, 6], 100_000);
 }
 
-/// The longest insert and the longest clone, from every start of rings that they fill and nearly so.
+/// The longest insert and the longest clone, in rings that they fill and nearly so: the clone from every start,
+/// the insert from the first ones and the last, from those that have a piece's end near the ring's, and from
+/// some of the others.
 #[test]
 fn long_entries_from_every_start() {
     let mut tally = Tally::default();
     let random = &mut Random(2);
-    for (is_clone, second) in [(false, 1_024), (true, 512)] {
+    for (is_clone, second, step) in [(false, 16_384, 61), (true, 512, 1)] {
         let entry = Entry { is_clone, first: random.bytes(512), second: random.bytes(second) };
         let weight = entry.weight();
         for len in [weight - 1, weight, weight + 1, weight + 700] {
-            for start in 0..=len {
+            let near = |start: &usize| {
+                let pieces = [4, 516, 520, weight].map(|end| (start + end).abs_diff(len));
+                *start < 40 || start + 40 > len || pieces.iter().any(|distance| *distance < 6)
+            };
+            for start in (0..=len).filter(|start| start % step == 0 || near(start)) {
                 let wanted = if start == len {
                     2
                 } else if len < weight {
@@ -187,11 +88,11 @@ fn long_entries_from_every_start() {
                 } else {
                     0
                 };
-                assert_eq!(tally.append(&mut Journal::new(1, len, start), &entry), wanted);
+                assert_eq!(tally.append(&mut Journal::new(5, len, start), &entry), wanted);
             }
         }
     }
-    tally.ends(&[0, 2, 6], 8_000);
+    tally.ends(&[0, 2, 6], 6_000);
 }
 
 /// Lengths at their limits, with and without room.
@@ -201,16 +102,16 @@ fn entries_at_their_limits() {
     let random = &mut Random(3);
     for (first, second) in [0, 511, 512, 513, 1_024, 4_096]
         .into_iter()
-        .flat_map(|n| [0, 511, 512, 513, 1_023, 1_024, 1_025].map(|m| (n, m)))
+        .flat_map(|n| [0, 511, 512, 513, 4_064, 16_383, 16_384, 16_385].map(|m| (n, m)))
     {
         for is_clone in [false, true] {
             let [first, second] = [first, second].map(|n| random.bytes(n));
             let entry = Entry { is_clone, first, second };
             let weight = entry.weight();
-            for len in [0, 1, weight - 1, weight, weight + 1, 6_000] {
+            for len in [0, 1, weight - 1, weight, weight + 1, 24_000] {
                 for start in [0, len.saturating_sub(1)] {
-                    for written in [0, 1] {
-                        let mut journal = Journal::new(1, len, start);
+                    for written in [0, 1, 5] {
+                        let mut journal = Journal::new(5, len, start);
                         journal.words[8] = written;
                         tally.append(&mut journal, &entry);
                     }
@@ -229,11 +130,11 @@ fn lists_through_rings() {
     let mut tally = Tally::default();
     let random = &mut Random(4);
     for _ in 0..1_500 {
-        let most = random.one_of(&[0, 3, 40, 1_024]);
+        let most = random.one_of(&[0, 3, 40, 1_024, 16_384]);
         let list: Vec<_> = (0..1 + random.below(24)).map(|_| Entry::random(random, most)).collect();
         let weight = forms(&list).len();
         let left = random.one_of(&[0, 1, 8, 300]);
-        let mut journal = Journal::new(40, weight + left, random.below(weight + left));
+        let mut journal = Journal::new(130, weight + left, random.below(weight + left));
         let frozen = random.below(list.len() + 1);
         for (k, entry) in list.iter().enumerate() {
             assert_eq!(tally.append(&mut journal, entry), 0);
@@ -315,17 +216,18 @@ fn lists_around_a_block_end() {
 fn entries_across_a_block_end() {
     let mut tally = Tally::default();
     let random = &mut Random(6);
-    for (first, second, step) in [(5, 9, 1), (512, 1_024, 13)] {
-        let weight = 8 + first + second;
+    for (first, second, step, blocks) in [(5, 9, 1, 2), (512, 16_384, 127, 5)] {
+        let (weight, end) = (8 + first + second, PAYLOAD * blocks - 8);
         for over in (0..=weight).step_by(step) {
-            let mut list = writing::weighing(random, 2 * PAYLOAD - 8 - weight + over);
+            let mut list = writing::weighing(random, end - weight + over);
             let [first, second] = [first, second].map(|n| random.bytes(n));
             list.push(Entry { is_clone: false, first, second });
             list.extend(writing::weighing(random, 100));
             let n = forms(&list).len();
-            for start in [n - (2 * PAYLOAD - 8), random.below(n)] {
-                let journal = Journal::holding(3, n, start, MEMORY, &list, 0);
-                assert_eq!(tally.package(&journal, PackageInMemory, 3 * BLOCK, &list), 0);
+            let blocks = needed(n);
+            for start in [n - end, random.below(n)] {
+                let journal = Journal::holding(blocks, n, start, MEMORY, &list, 0);
+                assert_eq!(tally.package(&journal, PackageInMemory, blocks * BLOCK, &list), 0);
             }
         }
     }

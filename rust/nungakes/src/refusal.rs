@@ -90,7 +90,7 @@ impl fmt::Display for Refusal {
             SizeOutOfRange => "a region has 1 to 1,024 blocks, a ring at most 8,388,608 bytes",
             CountsDisagree => "the record is damaged, or a lent buffer is not as long as it says",
             FirstTooLong => "more than 512 first bytes",
-            SecondTooLong => "more than 1,024 bytes of a value, or 512 of a clone's to",
+            SecondTooLong => "more than 16,384 bytes of a value, or 512 of a clone's to",
             RegionFull => "no room in the region's blocks",
             RingFull => "no room in the ring",
             EntriesPending => "pending entries forbid it",

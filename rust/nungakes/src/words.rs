@@ -15,7 +15,7 @@ pub const MOST_RING: usize = 8_388_608;
 /// The most first bytes of an entry: an insert's key, a clone's from.
 pub const FIRST_LIMIT: usize = 512;
 /// The most bytes of an insert's value.
-pub const VALUE_LIMIT: usize = 1024;
+pub const VALUE_LIMIT: usize = 16_384;
 /// The most bytes of a clone's to.
 pub const TO_LIMIT: usize = 512;
 /// Where in a card the live interval's start stands, and where its length: 32 bits each, lowest byte first.

@@ -41,7 +41,7 @@ fn word(to: &mut impl Write, n: usize) -> io::Result<()> {
 /// Some entries, or those that end near a block's end; one list in twenty is long.
 fn list(k: usize, random: &mut Random) -> Vec<Entry> {
     if k.is_multiple_of(3) {
-        let most = random.one_of(&[0, 3, 40, 1_024]);
+        let most = random.one_of(&[0, 3, 40, 1_024, 16_384]);
         return (0..1 + random.below(30)).map(|_| Entry::random(random, most)).collect();
     }
     let blocks = if k % 20 == 7 { 12 + random.below(20) } else { 1 + random.below(4) };
@@ -93,7 +93,7 @@ fn image(parts: &[&[Entry]], random: &mut Random) -> (bool, Vec<u8>) {
         }
     }
     behind.iter().for_each(|entry| append(&mut words, &mut ring, entry));
-    let mut out = random.bytes(BLOCK * 40 + more[1]);
+    let mut out = random.bytes(BLOCK * 140 + more[1]);
     let package = if frozen { calls::package_frozen } else { calls::package_in_memory };
     assert_eq!(package(&mut words, &ring, &mut out), 0);
     out.truncate(BLOCK * words[word::WRITTEN] as usize);

@@ -4,7 +4,7 @@ use super::block::PAYLOAD;
 
 /// The most first bytes of an entry, and the most second bytes of an insert and of a clone.
 pub const FIRST: u32 = 512;
-pub const INSERTED: u32 = 1_024;
+pub const INSERTED: u32 = 16_384;
 pub const CLONED: u32 = 512;
 
 /// What is added to a clone's first length.

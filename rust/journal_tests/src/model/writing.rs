@@ -24,6 +24,12 @@ impl Entry {
         Entry { is_clone, first, second }
     }
 
+    /// An insert that is as long as can be.
+    pub fn largest(random: &mut Random) -> Self {
+        let [first, second] = [FIRST, INSERTED].map(|limit| random.bytes(limit as usize));
+        Entry { is_clone: false, first, second }
+    }
+
     /// The bytes of its wire form.
     pub fn weight(&self) -> usize {
         8 + self.first.len() + self.second.len()
@@ -55,7 +61,8 @@ pub fn payload(entries: usize, blocks: usize, forms: &[u8]) -> Vec<u8> {
 /// Entries of exactly this weight together, which is 0 or at least 8: as few as can be, or some more.
 pub fn weighing(random: &mut Random, weight: usize) -> Vec<Entry> {
     let least = weight.div_ceil((8 + FIRST + INSERTED) as usize);
-    let n = (least + random.below(32)).min(weight / 8);
+    let more = random.one_of(&[1, 32]);
+    let n = (least + random.below(more)).min(weight / 8);
     let entry = |i: usize| {
         let bytes = weight * (i + 1) / n - weight * i / n - 8;
         let is_clone = bytes <= (FIRST + CLONED) as usize && random.below(2) == 1;
@@ -67,14 +74,15 @@ pub fn weighing(random: &mut Random, weight: usize) -> Vec<Entry> {
     (0..n).map(entry).collect()
 }
 
-/// A few entries, or such as fill one block or two, or nearly so.
+/// A few entries, which may be long, or such as fill one block or two, or nearly so.
 pub fn some(random: &mut Random) -> Vec<Entry> {
     if random.below(4) == 0 {
         let weight = PAYLOAD * (1 + random.below(2)) - 8 - random.below(3);
         return weighing(random, weight);
     }
-    let most = random.one_of(&[0, 3, 40, 400, 1_024]);
-    (0..1 + random.below(6)).map(|_| Entry::random(random, most)).collect()
+    let (most, count) =
+        random.one_of(&[(0, 6), (3, 6), (40, 6), (400, 6), (1_024, 6), (INSERTED as usize, 2)]);
+    (0..1 + random.below(count)).map(|_| Entry::random(random, most)).collect()
 }
 
 /// The payload of a batch of so many blocks: entries from `next`, until one finds no room.

@@ -1,5 +1,5 @@
 //! Every cut of every store of an image, in every small region, behind every live interval.
-use crate::{batches, blocks, card, image, Batch, Tally};
+use crate::{batches, blocks, card, image, largest, Batch, Tally};
 use journal_tests::model::block::BLOCK;
 use journal_tests::model::card::place;
 use journal_tests::random::Random;
@@ -20,6 +20,23 @@ fn every_cut_of_every_store() {
         }
     }
     println!("{:?}", tally.answers);
+}
+
+/// The same of the largest entry, in regions with just enough blocks for it, with more and with fewer; the old
+/// list is empty, or a block, or the largest too.
+#[test]
+fn every_cut_of_the_largest_entry() {
+    let tally = &mut Tally::default();
+    let random = &mut Random(4);
+    for (n, len) in [(4, 0), (5, 0), (5, 1), (6, 0), (6, 1), (9, 5), (10, 5), (11, 5)] {
+        for start in 0..n {
+            let old = if len == 5 { vec![largest(random)] } else { batches(len, random) };
+            let (new, other) = (vec![largest(random)], batches(1, random));
+            let card = card(n, start, &old, random);
+            Stores { n, start, old, new, card }.at_every_cut(tally, &other);
+        }
+    }
+    assert!([0, 19].iter().all(|code| tally.answers.contains_key(&("CardStore".into(), *code))));
 }
 
 /// A card on which old batches are live, and new ones to store.

@@ -23,13 +23,15 @@ struct Batch {
     payload: Vec<u8>,
 }
 
-/// Some batches that have just so many blocks together: with no entries, with few, or full.
+/// Some batches that have just so many blocks together: with no entries, with few, with as much as the
+/// largest, or full.
 fn batches(mut blocks: usize, random: &mut Random) -> Vec<Batch> {
     let mut all = vec![];
     while blocks > 0 {
         let own = 1 + random.below(blocks);
         let few = 8 + random.below(300);
-        let weight = random.one_of(&[0, few, few, PAYLOAD * own - 8]);
+        let room = PAYLOAD * own - 8;
+        let weight = random.one_of(&[0, few, few, room, room.min(16_904)]);
         let entries = writing::weighing(random, weight);
         let forms: Vec<u8> = entries.iter().flat_map(Entry::wire_form).collect();
         let payload = writing::payload(entries.len(), own, &forms);
@@ -37,6 +39,12 @@ fn batches(mut blocks: usize, random: &mut Random) -> Vec<Batch> {
         blocks -= own;
     }
     all
+}
+
+/// A batch of the largest entry, in five blocks.
+fn largest(random: &mut Random) -> Batch {
+    let entries = vec![Entry::largest(random)];
+    Batch { payload: writing::batch(&entries, 0), entries }
 }
 
 fn payload(list: &[Batch]) -> Vec<u8> {

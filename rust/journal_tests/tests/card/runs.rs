@@ -1,5 +1,5 @@
 //! Long random runs on a card, held to the list of its live batches.
-use crate::{batches, blocks, card, image, Batch, Tally};
+use crate::{batches, blocks, card, image, largest, Batch, Tally};
 use journal_tests::call::Call;
 use journal_tests::model::block::PAYLOAD;
 use journal_tests::random::{times, Random};
@@ -18,7 +18,10 @@ impl Run {
 
     /// An image that has room, stored to its end or up to a cut.
     fn store(&mut self, tally: &mut Tally, random: &mut Random) {
-        let list = batches(random.below(self.room() + 1), random);
+        let list = match random.below(3) {
+            0 if self.room() >= 5 => vec![largest(random)],
+            _ => batches(random.below(self.room() + 1), random),
+        };
         let image = image(&list);
         if random.below(3) > 0 {
             tally.store_all(&mut self.card, &image);
@@ -63,6 +66,12 @@ impl Run {
         tally.finds(&self.card, &self.live);
     }
 
+    /// Whether a value is longer than two blocks' payload.
+    fn has_long(&self) -> bool {
+        let mut entries = self.live.iter().flat_map(|batch| &batch.entries);
+        entries.any(|entry| entry.second.len() > 2 * PAYLOAD)
+    }
+
     fn wraps(&self) -> bool {
         let start = u32::from_le_bytes(*self.card[38..].first_chunk().unwrap());
         start as usize + blocks(&self.live) > self.n
@@ -74,19 +83,20 @@ impl Run {
 fn random_runs() {
     let tally = &mut Tally::default();
     let random = &mut Random(3);
-    let mut wrapped = 0;
+    let [mut wrapped, mut long] = [0; 2];
     for round in 0..30 * times() {
-        let n = 1 + round % 7;
+        let n = 1 + round % 8;
         let live = batches(random.below(n + 1), random);
         let card = card(n, random.below(n), &live, random);
         let mut run = Run { n, card, live };
         for _ in 0..30 {
             run.step(tally, random);
             wrapped += usize::from(run.wraps());
+            long += usize::from(run.has_long());
         }
     }
-    println!("{wrapped} wrapped: {:?}", tally.answers);
-    assert!(wrapped > 100, "{wrapped}");
+    println!("{wrapped} wrapped, {long} with long values: {:?}", tally.answers);
+    assert!(wrapped > 100 && long > 50, "{wrapped}, {long}");
     for (name, numbers) in [
         ("CardFormat", &[0][..]),
         ("CardFind", &[0]),

@@ -159,7 +159,8 @@ fn no_room_for_a_thaw() {
 }
 
 /// Words of a wire form and of a batch, at and past their limits.
-const LENGTHS: [u32; 12] = [0, 1, 2, 7, 512, 513, 1_024, 1_025, 4_096, 4_608, 4_609, u32::MAX];
+const LENGTHS: [u32; 13] =
+    [0, 1, 2, 7, 512, 513, 4_064, 4_096, 4_608, 4_609, 16_384, 16_385, u32::MAX];
 
 /// Changes a bit of some bytes, or a word at a place.
 fn spoil(s: &mut [u8], place: usize, random: &mut Random) {

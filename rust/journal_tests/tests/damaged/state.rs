@@ -52,7 +52,7 @@ fn region(pending: usize, most: usize, random: &mut Random) -> (usize, usize) {
 
 /// A ring with these forms, from its start on; it may be longer.
 fn ring(forms: &[u8], random: &mut Random) -> (Vec<u8>, usize) {
-    let more = random.one_of(&[0, 1, 8, 100, 2_000]);
+    let more = random.one_of(&[0, 1, 8, 100, 2_000, 17_000]);
     let mut ring = [forms, &random.bytes(more)].concat();
     let start = if ring.is_empty() { 0 } else { random.below(ring.len()) };
     ring.rotate_right(start);
@@ -125,7 +125,7 @@ impl State {
         let words = &mut self.words;
         let blocks = (words[7] + words[19] + 8).div_ceil(PAYLOAD as u64);
         words[1] = words[8] + words[9] + blocks;
-        words[2] += 1_544;
+        words[2] += 16_904;
         words[20] = 0;
         self.fit();
         self
@@ -183,7 +183,7 @@ impl State {
                     _ if self.word(6) == 0 => 0,
                     _ => (self.word(7) + 8).div_ceil(PAYLOAD as u128),
                 };
-                let out = vec![0xA5; BLOCK * blocks.min(8) as usize];
+                let out = vec![0xA5; BLOCK * blocks.min(20) as usize];
                 [self.ring.clone(), vec![], out]
             }
             Strip => {
@@ -219,7 +219,7 @@ impl State {
 
     /// The bytes of an entry: some, or as many as just fit or just don't, or over a limit.
     fn entry(&self, is_clone: bool, random: &mut Random) -> [Vec<u8>; 2] {
-        let limit = if is_clone { 512 } else { 1_024 };
+        let limit = if is_clone { 512 } else { 16_384 };
         let payload = PAYLOAD as u128;
         let weight = if self.word(6) == 0 { 8 } else { self.word(7) + 8 };
         let used = payload * (self.word(8) + self.word(9)) + weight;

@@ -95,14 +95,16 @@ impl History {
         self.lists.feed(fed, number != 0);
     }
 
+    /// Noted by whether the second bytes are longer than two blocks' payload.
     pub fn append(&mut self, entry: Entry, ring_as_long: bool) -> bool {
         let Entry { is_clone, first, second } = &entry;
+        let name = if second.len() > 2 * PAYLOAD { "append of long ones" } else { "append" };
         let weight = entry.weight() as u64;
         let [region, room] = self.room();
         let wanted = first_of(&[
             (2, !ring_as_long),
             (3, first.len() > 512),
-            (4, second.len() > if *is_clone { 512 } else { 1_024 }),
+            (4, second.len() > if *is_clone { 512 } else { 16_384 }),
             (5, weight > region),
             (6, weight > room),
         ]);
@@ -123,7 +125,7 @@ impl History {
             self.pending.extend(form);
             self.accepted.push(entry.clone());
         }
-        self.answered("append", &answer, wanted, Fed::Append(entry));
+        self.answered(name, &answer, wanted, Fed::Append(entry));
         self.check();
         wanted == 0
     }

@@ -20,27 +20,28 @@ struct Temper {
 /// An entry: some, one that just fits or just doesn't, or one over a limit.
 fn entry(history: &History, Temper { least, most, .. }: Temper, random: &mut Random) -> Entry {
     let is_clone = random.below(2) == 1;
+    let limits = [512, if is_clone { 512 } else { 16_384 }];
     match random.below(20) {
         0..2 => {
             let room = random.one_of(&history.room()) as usize + random.below(2);
             let bytes = room.saturating_sub(8);
-            if bytes <= 1_024 {
-                let first = random.below(bytes.min(512) + 1).max(bytes.saturating_sub(512));
+            let fewest = bytes.saturating_sub(limits[1]);
+            if fewest <= limits[0] {
+                let first = fewest + random.below(bytes.min(limits[0]) - fewest + 1);
                 let [first, second] = [first, bytes - first].map(|n| random.bytes(n));
                 return Entry { is_clone, first, second };
             }
-            Entry::random(random, 1_024)
+            Entry::random(random, most)
         }
         2 => {
             let first = random.one_of(&[512, 513, 514, 4_096]);
             Entry { is_clone, first: random.bytes(first), second: random.bytes(9) }
         }
         3 => {
-            let second = random.one_of(&[512, 513, 1_024, 1_025, 4_096]);
+            let second = random.one_of(&[512, 513, 4_096, 16_384, 16_385]);
             Entry { is_clone, first: random.bytes(9), second: random.bytes(second) }
         }
         _ => {
-            let limits = [512, if is_clone { 512 } else { 1_024 }];
             let [first, second] = limits.map(|limit| {
                 let [least, most] = [least, most].map(|n| n.min(limit));
                 let len = least + random.below(most - least + 1);
@@ -155,7 +156,7 @@ fn run(n: u64, r: u64, temper: Temper, steps: usize, random: &mut Random) -> See
     }
     recover(&mut history, random);
     history.check_whole();
-    let no_room = history.seen.contains_key(&("append", 6));
+    let no_room = history.seen.keys().any(|(_, number)| *number == 6);
     assert!(!no_room || r < PAYLOAD as u64 * n, "a ring as long as the region is full");
     history.seen
 }
@@ -175,18 +176,19 @@ fn small_regions() {
     let random = &mut Random(1);
     let mut all = vec![];
     for round in 0..300 * times() as u64 {
-        let n = 1 + round % 4;
+        let n = 1 + round % 6;
         let region = PAYLOAD as u64 * n;
         let some = random.below(2 * region as usize) as u64;
         let r =
             random.one_of(&[0, 8, 9, 40, 500, 2_000, 4_064, region, region + 1, some, some, some]);
-        let most = random.one_of(&[0, 3, 40, 300, 1_024]);
+        let most = random.one_of(&[0, 3, 40, 300, 1_024, 16_384]);
         let temper = Temper { least: 0, most, appends: random.one_of(&[200, 500, 800]) };
         all.push(run(n, r, temper, 500, random));
     }
     let seen = total(&all);
-    let wanted: [(&str, &[u8]); 17] = [
+    let wanted: [(&str, &[u8]); 18] = [
         ("append", &[0, 2, 3, 4, 5, 6]),
+        ("append of long ones", &[0, 2, 4, 5, 6]),
         ("freeze", &[0]),
         ("freeze of nothing", &[0]),
         ("load", &[0, 2, 9, 14]),
@@ -215,7 +217,7 @@ fn regions_of_many_blocks() {
     let mut all = vec![];
     let sizes = [(16, 9_000), (20, 40_000), (64, 100_000), (64, 260_096), (300, 20_000)];
     for (n, r) in sizes.repeat(times()) {
-        for (most, appends) in [(40, 850), (1_024, 900), (1_024, 500)] {
+        for (most, appends) in [(40, 850), (1_024, 900), (16_384, 500)] {
             all.push(run(n, r, Temper { least: 0, most, appends }, 1_600, random));
         }
     }
@@ -226,9 +228,11 @@ fn regions_of_many_blocks() {
 #[test]
 fn the_largest() {
     let random = &mut Random(3);
-    let temper = Temper { least: 500, most: 1_024, appends: 998 };
-    let rings = [8_388_608, 4_161_536, 2_000_000];
-    let all = rings.map(|r| run(1_024, r, temper, 6_000, random));
+    let rings = [(8_388_608, 1_024, 6_000), (4_161_536, 16_384, 2_000), (2_000_000, 1_024, 6_000)];
+    let all = rings.map(|(r, most, steps)| {
+        let temper = Temper { least: 500, most, appends: 998 };
+        run(1_024, r, temper, steps, random)
+    });
     let seen = total(&all);
     assert!([5, 6].iter().all(|number| seen.contains_key(&("append", *number))), "{seen:?}");
 }

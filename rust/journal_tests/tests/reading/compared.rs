@@ -129,9 +129,9 @@ pub fn batch_in(blocks: usize, entries: &[Entry]) -> Vec<u8> {
     payload(&start, blocks)
 }
 
-/// Entries of exactly this weight, which is 0 or at least 8.
+/// Entries of exactly this weight, some for each block; it is 0 or at least 8.
 pub fn of_weight(weight: usize) -> Vec<Entry> {
-    let n = weight.div_ceil(1_544);
+    let n = weight.div_ceil(1_500);
     let entry = |i: usize| {
         let bytes = weight * (i + 1) / n - weight * i / n - 8;
         let first = bytes.min(512);
@@ -150,7 +150,7 @@ pub struct Written {
 pub fn written(random: &mut Random) -> Written {
     let mut range = Written { joined: vec![], words: vec![], totals: [0; 2] };
     for _ in 0..=random.below(3) {
-        let most = random.one_of(&[3, 40, 1_024]);
+        let most = random.one_of(&[3, 40, 1_024, 16_384]);
         let count = random.below(16);
         let entries: Vec<_> = (0..count).map(|_| Entry::random(random, most)).collect();
         let start = range.joined.len();
@@ -170,7 +170,7 @@ pub fn written(random: &mut Random) -> Written {
 /// The range, unchanged, or with another word or bit, a block less or more, or its end cut off.
 pub fn damaged(Written { mut joined, words, .. }: Written, random: &mut Random) -> Vec<u8> {
     const WORDS: [u32; 12] =
-        [0, 1, 512, 513, 1_024, 1_025, 4_096, 4_608, 4_609, 1 << 27, 1 << 31, u32::MAX];
+        [0, 1, 512, 513, 4_096, 4_608, 4_609, 16_384, 16_385, 1 << 27, 1 << 31, u32::MAX];
     let len = joined.len();
     let block = PAYLOAD * random.below(len / PAYLOAD);
     match random.below(8) {

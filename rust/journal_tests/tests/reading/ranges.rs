@@ -151,12 +151,12 @@ fn lengths_at_their_limits() {
     let large = [1 << 16, 1 << 24, 1 << 31, (1 << 31) + 4_096, u32::MAX - 7, u32::MAX];
     let firsts = [1, 512, 1_024, 4_096, 4_608, 5_120, 8_192].map(around).into_iter().flatten();
     for first in firsts.chain(large) {
-        let seconds = [1, 512, 1_024, 4_096].map(around).into_iter().flatten();
+        let seconds = [1, 512, 1_024, 4_064, 4_096, 16_384].map(around).into_iter().flatten();
         for second in seconds.chain(large) {
-            let mut joined = payload(&header(1, 3), 3);
+            let mut joined = payload(&header(1, 6), 6);
             put(&mut joined, 8, first);
             put(&mut joined, 12 + first as usize % 4_096, second);
-            let right = (first <= 512 && second <= 1_024)
+            let right = (first <= 512 && second <= 16_384)
                 || ((4_096..=4_608).contains(&first) && second <= 512);
             let what = format_args!("lengths {first} and {second}");
             assert_eq!(tally.splits(&joined, what) == 0, right, "{what}");

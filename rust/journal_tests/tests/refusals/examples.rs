@@ -9,6 +9,7 @@ use journal_tests::model::writing::{self, Entry};
 pub fn run(table: &mut Table) {
     examples(table);
     a_full_region(table);
+    the_largest_entry(table);
     two_freezes(table);
     one_taken_back(table);
     waiting_clones(table);
@@ -113,6 +114,15 @@ fn a_full_region(table: &mut Table) {
             assert_eq!(session.append(&weighing(8)), 5);
         }
     }
+}
+
+/// In a region of five blocks: a value of 16,385 bytes is refused, and the largest entry and 3408 fill it.
+fn the_largest_entry(table: &mut Table) {
+    let mut session = Session::open(table, 5, 20_320);
+    let value = |n| Entry { is_clone: false, first: vec![0; 512], second: vec![0; n] };
+    assert_eq!([16_385, 16_384].map(|n| session.append(&value(n))), [4, 0]);
+    assert_eq!([3_409, 3_408, 8].map(|n| session.append(&weighing(n))), [5, 0, 5]);
+    assert_eq!(session.words[6..8], [2, 20_312]);
 }
 
 /// Two entries of weight 16, frozen one by one: two blocks.

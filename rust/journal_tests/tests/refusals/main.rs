@@ -69,9 +69,9 @@ fn with(mut words: Vec<u64>, others: &Others) -> Vec<u64> {
     words
 }
 
-/// An entry of this weight, at most 1,544, which is an insert.
+/// An entry of this weight, at most 16,904, which is an insert.
 fn weighing(weight: usize) -> Entry {
-    let second = (weight - 8).min(1_024);
+    let second = (weight - 8).min(16_384);
     Entry { is_clone: false, first: vec![1; weight - 8 - second], second: vec![2; second] }
 }
 

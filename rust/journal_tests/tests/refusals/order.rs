@@ -125,14 +125,14 @@ fn opening(table: &mut Table) {
 
 fn appending(table: &mut Table) {
     let lists = [(4, 1), (5, 16), (6, 1), (7, 16), (9, 1), (18, 1), (19, 16), (20, 1)];
-    let words = with(with(empty(2, 5_000), &[(3, 4_990)]), &lists);
+    let words = with(with(empty(6, 30_000), &[(3, 29_990)]), &lists);
     let second_long: Fault = |case| {
-        let limit = if case.call == AppendClone { 512 } else { 1_024 };
+        let limit = if case.call == AppendClone { 512 } else { 16_384 };
         case.lent.read[1] = vec![0; limit + 1];
     };
     let no_room_in_region: [Fault; 2] = [
-        |case| case.lent.words[6..8].copy_from_slice(&[3, 4_046]),
-        |case| case.lent.words[6..9].copy_from_slice(&[0, 0, 1]),
+        |case| case.lent.words[6..8].copy_from_slice(&[3, 20_302]),
+        |case| case.lent.words[6..9].copy_from_slice(&[0, 0, 5]),
     ];
     let no_room_in_ring: Fault = |case| {
         let words = &mut case.lent.words;
@@ -141,7 +141,7 @@ fn appending(table: &mut Table) {
     };
     for call in [AppendInsert, AppendClone] {
         let read = [b"ab".to_vec(), b"c".to_vec()];
-        let lent = Lent { words: words.clone(), read, written: vec![9; 5_000], ..Lent::default() };
+        let lent = Lent { words: words.clone(), read, written: vec![9; 30_000], ..Lent::default() };
         table.in_order(
             Case { call, lent },
             &[
@@ -306,7 +306,7 @@ fn replaying(table: &mut Table) {
     // lengths over the limit, and bytes that are left over the end
     let unreadable: [Fault; 3] = [
         |case| case.lent.read[0][4] = 0x04,
-        |case| case.lent.read[0][8] = 0x20,
+        |case| case.lent.read[0][8] = 0x40,
         |case| case.lent.words[11..13].copy_from_slice(&[15, 1]),
     ];
     table.in_order(

@@ -1,8 +1,9 @@
 //! Appends: entries of one weight, until the largest region is full. Half of them are before the end
-//! of the longest ring, and half of them from its start on.
+//! of the longest ring, and half of them from its start on. Every other one is a clone, where it may be so long.
 use crate::{filling, mixed, record, Case, Timed, Way};
 use journal_tests::model::block::PAYLOAD;
 use journal_tests::model::plain;
+use journal_tests::model::reading::{CLONED, FIRST};
 use journal_tests::model::writing::Entry;
 use journal_tests::random::Random;
 use nungakes::calls;
@@ -16,6 +17,8 @@ const SOME: usize = 1_000;
 
 pub struct Appends {
     weight: usize,
+    /// The appends of a round.
+    count: usize,
     entries: Vec<Entry>,
     ring: RefCell<Vec<u8>>,
 }
@@ -25,26 +28,24 @@ type Append = fn(&mut [u64], &mut [u8], &[u8], &[u8]) -> u64;
 impl Appends {
     pub fn new(weight: usize) -> Self {
         let random = &mut Random(1);
-        let [first, second] = [(weight - 8) / 2, (weight - 8).div_ceil(2)];
+        let first = ((weight - 8) / 2).min(FIRST as usize);
+        let second = weight - 8 - first;
         let entry = |k| Entry {
-            is_clone: k % 2 == 1,
+            is_clone: k % 2 == 1 && second <= CLONED as usize,
             first: random.bytes(first),
             second: random.bytes(second),
         };
-        let entries = (0..SOME).map(entry).collect();
-        Appends { weight, entries, ring: RefCell::new(vec![0; RING]) }
-    }
-
-    fn count(&self) -> usize {
-        (PAYLOAD * 1_024 - 8) / self.weight
+        let count = (PAYLOAD * 1_024 - 8) / weight;
+        let entries = (0..SOME.min(count)).map(entry).collect();
+        Appends { weight, count, entries, ring: RefCell::new(vec![0; RING]) }
     }
 
     fn start(&self) -> usize {
-        RING - self.weight * self.count() / 2
+        RING - self.weight * self.count / 2
     }
 
     fn entries(&self) -> impl Iterator<Item = &Entry> {
-        black_box(&self.entries).iter().cycle().take(self.count())
+        black_box(&self.entries).iter().cycle().take(self.count)
     }
 
     fn round(&self, [insert, clone]: [Append; 2]) -> Timed {
@@ -56,7 +57,7 @@ impl Appends {
             };
             self.entries().map(append).sum()
         });
-        assert_eq!(words[6], self.count() as u64);
+        assert_eq!(words[6], self.count as u64);
         timed.and(mixed(&[words]))
     }
 
@@ -75,8 +76,8 @@ impl Appends {
         let of_plain = [plain::append_insert as Append, plain::append_clone];
         Case {
             name: format!("append {}", self.weight),
-            calls: self.count(),
-            bytes: self.weight * self.count(),
+            calls: self.count,
+            bytes: self.weight * self.count,
             often: 1,
             ways: vec![
                 Way::new("rattle", move || self.round(of_library)),

@@ -1,7 +1,7 @@
 //! The exported calls beside plain Rust ones: a benchmark, never a test. In one run the rounds of all
 //! ways to do a case's work take turns, so that a busy machine slows each of them alike.
 //!
-//! `bench [ROUNDS [CASE]]` makes so many rounds (else 21) of the cases whose name starts with CASE. Of
+//! `bench [ROUNDS [CASE]]` makes so many rounds (else 21) of the cases whose first words are CASE. Of
 //! each way it prints the nanoseconds for a call and for a byte and the MB/s, by its best round, and
 //! how many times as long as this way Rattle takes, by the best and by the middle rounds.
 mod appends;
@@ -115,11 +115,11 @@ fn measured(case: &mut Case, rounds: usize) -> Vec<[f64; 2]> {
 fn main() {
     let words: Vec<String> = std::env::args().skip(1).collect();
     let rounds = words.first().map_or(21, |word| word.parse().expect("ROUNDS is a number"));
-    let only = words.get(1).map_or("", String::as_str);
+    let only = words.get(1).map_or(String::new(), |word| format!("{word} "));
 
     let mut buffer = vec![0; 8 << 20];
     Random(1).fill(&mut buffer);
-    let appends = [24, 100, 1_000].map(appends::Appends::new);
+    let appends = [24, 100, 1_000, 16_000].map(appends::Appends::new);
     let sizes = [1, 4, 16, 64, 256, 1_024].map(|blocks| Pieces::new(blocks, &[3, 40, 1_024]));
     let tiny = Pieces::new(1_024, &[3]);
     let small = small::Small::new();
@@ -136,7 +136,7 @@ fn main() {
 
     println!("                                         best                      rattle / this");
     println!("case                      way         ns/call  ns/byte    MB/s     best  middle");
-    for mut case in cases.into_iter().filter(|case| case.name.starts_with(only)) {
+    for mut case in cases.into_iter().filter(|case| format!("{} ", case.name).starts_with(&only)) {
         let times = measured(&mut case, rounds);
         for (way, [best, middle]) in case.ways.iter().zip(&times) {
             let a_call = best * 1e9 / case.calls as f64;

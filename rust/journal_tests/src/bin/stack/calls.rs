@@ -126,7 +126,7 @@ fn images(measure: &mut dyn FnMut(Row)) {
 /// An entry whose second bytes wrap in their middle: into an empty ring, and into one in which half a
 /// million entries leave room for it alone, as they do in the region.
 fn appends(measure: &mut dyn FnMut(Row)) {
-    let bytes = [1_u8; 1_024];
+    let bytes = [1_u8; 16_384];
     let mut ring = vec![0_u8; PAYLOAD * MOST];
     let mut append = |r: usize, pending: usize, first: usize, second: usize| {
         let end = (r - second / 2 - 8 - first) + r - pending;
@@ -143,11 +143,11 @@ fn appends(measure: &mut dyn FnMut(Row)) {
         [
             append(40, 0, 5, 9),
             append(most, room(22), 5, 9),
-            append(3_000, 0, first, second),
+            append(30_000, 0, first, second),
             append(most, longest, first, second),
         ]
     };
-    measure(row!(journal_append_insert, both(1_024)));
+    measure(row!(journal_append_insert, both(16_384)));
     measure(row!(journal_append_clone, both(512)));
 }
 
@@ -293,11 +293,12 @@ fn places(measure: &mut dyn FnMut(Row)) {
     measure(row!(journal_place_interval, both(&[8_192, 4_096], &[8_192, 4_096 * n])));
 }
 
-/// The image of a batch of so many blocks: of the smallest entries, and of the largest.
+/// The image of a batch of so many blocks: of the smallest entries, and of the largest, each of which needs five.
 fn extremes(blocks: usize) -> [(&'static str, Vec<u8>); 2] {
-    [("smallest", [0, 0]), ("largest", [512, 1_024])].map(|(which, [first, second])| {
-        let entry = || Entry { is_clone: false, first: vec![1; first], second: vec![2; second] };
-        (which, writing::image(&writing::full_batch(blocks, entry)))
+    [("smallest", [0, 0], 1), ("largest", [512, 16_384], 5)].map(|(which, lens, least)| {
+        let [first, second] = lens.map(|n| vec![1; n]);
+        let entry = || Entry { is_clone: false, first: first.clone(), second: second.clone() };
+        (which, writing::image(&writing::full_batch(blocks.max(least), entry)))
     })
 }
 
@@ -340,17 +341,22 @@ fn cards(measure: &mut dyn FnMut(Row)) {
 fn card_stores(measure: &mut dyn FnMut(Row)) {
     let mut answer = [0_u64; 1];
     let answer = filled(&mut answer);
-    for (sizes, last) in [([(1, 1), (MOST, 1_000)], false), ([(2, 1), (MOST, MOST / 2)], true)] {
-        let images: Vec<_> = sizes.iter().flat_map(|(_, blocks)| extremes(*blocks)).collect();
-        let mut cards: Vec<_> =
-            sizes.iter().flat_map(|(n, _)| [(); 2].map(|()| card(*n, &[]))).collect();
-        let store = |((which, image), card): (&(&str, Vec<u8>), &mut Vec<u8>)| {
+    for (sizes, times) in [([(1, 1), (MOST, 1_000)], 1), ([(2, 1), (MOST, MOST / 2)], 2)] {
+        let with_card = |n: usize, (which, image): (&'static str, Vec<u8>)| {
+            let card = card(n.max(times * image.len() / BLOCK), &[]);
+            (which, image, card)
+        };
+        let mut all: Vec<_> = sizes
+            .into_iter()
+            .flat_map(|(n, blocks)| extremes(blocks).map(|image| with_card(n, image)))
+            .collect();
+        let store = |(which, image, card): &mut (&str, Vec<u8>, Vec<u8>)| {
             let n = image.len() / BLOCK;
-            let made = if last { n } else { 0 };
+            let made = if times == 2 { n } else { 0 };
             let what = format!("{}, {which} entries, told {made}", blocks(n));
             on_card(what, card, &[&lent(image)[..], &[made as u64], &answer].concat())
         };
-        measure(row!(journal_card_store, images.iter().zip(&mut cards).map(store)));
+        measure(row!(journal_card_store, all.iter_mut().map(store)));
     }
 }
 

@@ -7,6 +7,7 @@ mod record;
 
 pub use super::block::strip;
 use super::block::{BLOCK, PAYLOAD};
+pub use super::reading::range;
 use super::reading::{Joined, Range, CLONED, FIRST, INSERTED};
 pub use card::{
     find as card_find, format as card_format, release as card_release, store as card_store,
