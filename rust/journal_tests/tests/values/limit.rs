@@ -23,6 +23,11 @@ fn pairs(random: &mut Random) -> Vec<[Entry; 2]> {
     inserts.into_iter().chain(CLONED.map(|len| pair(true, len, 512))).collect()
 }
 
+/// All of them, each with what a call gives on it: this number where it is too long.
+fn answered(number: u64, random: &mut Random) -> Vec<(Entry, u64)> {
+    pairs(random).into_iter().flat_map(|pair| pair.into_iter().zip([number, 0])).collect()
+}
+
 /// Lists that have the entry alone, last, first and between others.
 fn lists(entry: &Entry, random: &mut Random) -> [Vec<Entry>; 4] {
     [[0, 0], [2, 0], [0, 1], [3, 2]].map(|[before, behind]| {
@@ -87,27 +92,24 @@ fn read_back() {
 fn packaged() {
     let mut tally = Tally::default();
     let random = &mut Random(3);
-    for pair in pairs(random) {
-        for (entry, wanted) in pair.iter().zip([15, 0]) {
-            for list in lists(entry, random) {
-                let bytes = forms(&list).len();
-                let (blocks, start) = (needed(bytes), random.below(bytes));
-                for (call, at, held) in
-                    [(PackageInMemory, MEMORY, 0), (PackageFrozen, FROZEN, blocks)]
-                {
-                    let journal = Journal::holding(blocks, bytes, start, at, &list, held);
-                    assert_eq!(tally.package(&journal, call, BLOCK * blocks, &list), wanted);
-                }
+    for (entry, wanted) in answered(15, random) {
+        for list in lists(&entry, random) {
+            let bytes = forms(&list).len();
+            let (blocks, start) = (needed(bytes), random.below(bytes));
+            for (call, at, held) in [(PackageInMemory, MEMORY, 0), (PackageFrozen, FROZEN, blocks)]
+            {
+                let journal = Journal::holding(blocks, bytes, start, at, &list, held);
+                assert_eq!(tally.package(&journal, call, BLOCK * blocks, &list), wanted);
             }
-            let list = [Entry::random(random, 40), entry.clone()];
-            let [frozen, bytes] = [list[0].weight(), forms(&list).len()];
-            let held = needed(frozen);
-            let n = held + needed(entry.weight());
-            let mut journal = Journal::holding(n, bytes, random.below(bytes), FROZEN, &list, held);
-            journal.words[FROZEN..MEMORY + 2]
-                .copy_from_slice(&[1, frozen, 1, entry.weight()].map(|n| n as u64));
-            assert_eq!(tally.package(&journal, PackageFrozen, BLOCK * held, &list[..1]), wanted);
         }
+        let list = [Entry::random(random, 40), entry];
+        let [frozen, memory] = [0, 1].map(|k| list[k].weight());
+        let (held, r) = (needed(frozen), frozen + memory);
+        let n = held + needed(memory);
+        let mut journal = Journal::holding(n, r, random.below(r), FROZEN, &list, held);
+        journal.words[FROZEN..MEMORY + 2]
+            .copy_from_slice(&[1, frozen, 1, memory].map(|n| n as u64));
+        assert_eq!(tally.package(&journal, PackageFrozen, BLOCK * held, &list[..1]), wanted);
     }
     tally.ends(&[0, 15], 250);
 }
@@ -117,20 +119,16 @@ fn packaged() {
 fn on_a_card() {
     let mut tally = Tally::default();
     let random = &mut Random(4);
-    for pair in pairs(random) {
-        for (entry, wanted) in pair.iter().zip([14, 0]) {
-            for list in lists(entry, random) {
-                let image = writing::image(&writing::batch(&list, 0));
-                let blocks = image.len() / BLOCK;
-                let n = blocks as u64;
-                for (call, live) in
-                    [(CardStore { n, made: 0 }, &[][..]), (CardRelease { n }, &image)]
-                {
-                    let written = with_live(blocks, random.below(blocks), live, random);
-                    let read = [image.clone(), vec![]];
-                    let lent = Lent { read, written, answer: vec![7], ..Lent::default() };
-                    assert_eq!(tally.call(call, lent).0, wanted, "{call:?}");
-                }
+    for (entry, wanted) in answered(14, random) {
+        for list in lists(&entry, random) {
+            let image = writing::image(&writing::batch(&list, 0));
+            let blocks = image.len() / BLOCK;
+            let n = blocks as u64;
+            for (call, live) in [(CardStore { n, made: 0 }, &[][..]), (CardRelease { n }, &image)] {
+                let written = with_live(blocks, random.below(blocks), live, random);
+                let read = [image.clone(), vec![]];
+                let lent = Lent { read, written, answer: vec![7], ..Lent::default() };
+                assert_eq!(tally.call(call, lent).0, wanted, "{call:?}");
             }
         }
     }
