@@ -1,18 +1,17 @@
 -- The runs of a list: none is empty, they add up to the list, and there are few of them. Then, of a ring as it is lent,
 -- how many are left behind the next one. Assumes nothing.
 use mathlib.Core.Path.{_≡_, refl, sym, ap, _∙_}
-use mathlib.Core.Bool.{cond}
 use mathlib.Core.List.{List, [], _∷_}
 use mathlib.Core.Logic.{dite, _⊎_, inl, inr}
-use Prim.Native.Nat.{ℕ, zero, suc, _+_, _-_, _*_, _/_, _%_, _≤_, _<_, min}
+use Prim.Native.Nat.{ℕ, zero, suc, _+_, _-_, _/_, _%_, _≤_, _<_, min}
 use native.Mathlib.Decide.{decLt}
 use native.Mathlib.Omega.{arith}
 use borrow.Author.Tests.{lt-ltb, le-ltb}
-use lib.Dec.{ltb}
-use lib.ListN.{length}
+use lib.ListN.{length, take, drop, length-drop}
+use lib.Seq.{length-take-le}
 use Rattle.journal_ring.specs.Ring.{advance}
 use Rattle.journal_ring.proofs.Rotation.{advance-near, advance-far}
-use Rattle.marshalling.specs.Runs.{toRingEnd, toBlockEnd, runAt, runsWithin, runsFrom, runsOf, mostRuns}
+use Rattle.marshalling.specs.Runs.{toBlockEnd, runAt, runsWithin, runsFrom, runsOf, mostRuns}
 use Rattle.marshalling.specs.Runs.{placeIn, runsLeft}
 
 -- the sum of a list of lengths
@@ -238,3 +237,18 @@ module _ (x y : List ℕ) (at n : ℕ) (there : at + n ≤ length x + length y) 
       let none = left-none done h in
       let same : r ≡ length (runsOf size place n) = omega arith in
       (same, rw same (runs-few size place n inside (omega arith)))
+
+-- a ring that is lent as its bytes from start on and those before start: the runs are those of the ring itself
+pub ring-runs : (ring : List ℕ) (start n : ℕ) → start < length ring
+    → let x = drop start ring in
+    let y = take start ring in
+    runsOf (length x + length y) (placeIn x y 0) n ≡ runsOf (length ring) start n
+ring-runs ring start n h =
+    let s : length ring - start + start ≡ length ring = omega arith in
+    let p : start + 0 ≡ start = omega arith in
+    rw (length-drop, length-take-le start ring (omega arith), s, advance-near (length ring) start 0 (omega arith), p)
+
+-- the bound is reached: a list that fills its block, and lies across the ring's end
+pub bound-reached : length (runsOf 5000 4000 4056) ≡ mostRuns 4056
+unfolding runsWithin runAt advance
+bound-reached = refl

@@ -249,6 +249,32 @@ fn a_list_from_every_start() {
     tally.ends(&[0], 8_000);
 }
 
+/// The ring's end, a block's end and the list's end near one another, in either order: a run of the copy ends at
+/// the nearest of them. The ring's end may also be the list's, or lie behind it.
+#[test]
+fn three_ends_near_one_another() {
+    let mut tally = Tally::default();
+    let random = &mut Random(13);
+    let near = |end: usize| end - 3..=end + 3;
+    for block_end in [1, 2, 3].map(|blocks| PAYLOAD * blocks - 8) {
+        for n in near(block_end).chain(near(block_end + PAYLOAD)) {
+            let list = writing::weighing(random, n);
+            let blocks = needed(n);
+            let r = n + 2 * PAYLOAD;
+            for ring_end in near(block_end).chain(near(n)).chain([1, n - 1]) {
+                let (call, at, held) = if ring_end % 2 == 0 {
+                    (PackageInMemory, MEMORY, 0)
+                } else {
+                    (PackageFrozen, FROZEN, blocks)
+                };
+                let journal = Journal::holding(blocks, r, r - ring_end, at, &list, held);
+                assert_eq!(tally.package(&journal, call, blocks * BLOCK, &list), 0);
+            }
+        }
+    }
+    tally.ends(&[0], 600);
+}
+
 /// Lists that fill so many blocks.
 #[test]
 fn every_number_of_blocks() {

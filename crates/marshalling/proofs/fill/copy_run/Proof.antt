@@ -1,10 +1,9 @@
 -- `marshalling::fill::copy_run` meets its contract: the run lies in one of the two parts, and ends where the definition
 -- says. Assumes nothing.
-use mathlib.Core.Path.{_≡_, refl, sym, _∙_}
-use Prim.Native.Nat.{_+_, _-_, _≤_, min}
+use mathlib.Core.Path.{refl, sym, _∙_}
+use Prim.Native.Nat.{_+_, _-_, _≤_}
 use native.Mathlib.Omega.{arith}
 use lib.ListN.{length}
-use Rattle.marshalling.specs.Runs.{toBlockEnd}
 use Rattle.marshalling.proofs.Filling.{run-first, run-second}
 use Rattle.marshalling.proofs.Runs.{run-in-first, run-in-second}
 use borrow.Author.Needs.{needs}
@@ -57,7 +56,8 @@ returns c =
       run-first (a .a .now) (a .dst .now) (cp .copy .last .1 .0) (a .at + a .done) (l .least2 .result) fits
           (cp .copy .ensures .1) (a .b .now),
       l .least2 .ensures
-          ∙ rw room (sym (run-in-first (a .a .now) (a .b .now) (a .at) (a .n) (s .pre .0 .0) (a .done) (f .if1 .taken))),
+          ∙ rw room
+          (sym (run-in-first (a .a .now) (a .b .now) (a .at) (a .n) (s .pre .0 .0) (a .done) (f .if1 .taken))),
     )
 
 sub-j : tie.Need-sub-j
@@ -90,7 +90,8 @@ returns-2 c =
       run-second (a .b .now) (a .dst .now) (cp .copy2 .last .1 .0) (a .at + a .done - length (a .a .now))
           (r .least .result) (omega arith) (cp .copy2 .ensures .1) (a .a .now) (a .at + a .done) refl (omega arith),
       rw (s .pre .1) at (r .least .ensures)
-          ∙ sym (run-in-second (a .a .now) (a .b .now) (a .at) (a .n) (s .pre .0 .0) (a .done) (omega arith) (s .pre .0 .1)),
+          ∙ sym (run-in-second (a .a .now) (a .b .now) (a .at) (a .n) (s .pre .0 .0) (a .done) (omega arith)
+          (s .pre .0 .1)),
     )
 
 pub copy-run-spec : {M : Type 1} → statement M

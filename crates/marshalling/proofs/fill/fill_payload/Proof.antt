@@ -1,11 +1,10 @@
 -- `marshalling::fill::fill_payload` meets its contract: what is left of the header is copied, and behind it the list
 -- goes on. Assumes nothing.
-use mathlib.Core.Path.{_≡_, _∙_}
+use mathlib.Core.Path.{_∙_}
 use mathlib.Core.List.{_++_}
-use Prim.Native.Nat.{_+_, _-_, _≤_}
+use Prim.Native.Nat.{_+_}
 use native.Mathlib.Omega.{arith}
-use lib.ListN.{length, take, drop}
-use Rattle.marshalling.specs.Runs.{toBlockEnd}
+use lib.ListN.{take, drop}
 use Rattle.marshalling.proofs.Filling.{block-on, payload-filled}
 use borrow.Author.Needs.{needs}
 use Rattle.marshalling.proofs.fill.fill_payload.Statement.{statement}
