@@ -11,18 +11,8 @@ use lib.ListN.{length, take, drop, length-drop}
 use lib.Seq.{length-take-le}
 use Rattle.journal_ring.specs.Ring.{advance}
 use Rattle.journal_ring.proofs.Rotation.{advance-near, advance-far}
-use Rattle.marshalling.specs.Runs.{toBlockEnd, runAt, runsWithin, runsFrom, runsOf, mostRuns}
-use Rattle.marshalling.specs.Runs.{placeIn, runsLeft}
-
--- the sum of a list of lengths
-unfoldable pub total : List ℕ → ℕ
-total [] = 0
-total (n ∷ ns) = n + total ns
-
--- each is at least 1
-abbrev pub NoneEmpty : List ℕ → Type 0
-NoneEmpty [] = Unit {0}
-NoneEmpty (n ∷ ns) = (0 < n) × NoneEmpty ns
+use Rattle.marshalling.specs.Runs.{toBlockEnd, runAt, runsWithin, runsFrom, runsOf}
+use Rattle.marshalling.specs.Runs.{NoneEmpty, total, mostRuns, placeIn, runsLeft}
 
 -- The next run, before the ring's end and behind it.
 

@@ -3,7 +3,7 @@
 -- copied. Assumes nothing.
 use mathlib.Core.Bool.{cond}
 use mathlib.Core.List.{List, [], _∷_}
-use Prim.Native.Nat.{ℕ, zero, suc, _+_, _-_, _/_, _%_, min}
+use Prim.Native.Nat.{ℕ, zero, suc, _+_, _-_, _/_, _%_, _<_, min}
 use lib.Dec.{ltb}
 use lib.ListN.{length}
 use Rattle.journal_ring.specs.Ring.{advance}
@@ -39,7 +39,17 @@ runsFrom size place b done = runsWithin b size place b done
 abbrev pub runsOf : (size place b : ℕ) → List ℕ
 runsOf size place b = runsFrom size place b 0
 
--- "at most (b + 8) / 4064, rounded up, plus 1 runs"
+-- What is claimed of them, `Runs` in proofs/: none is empty,
+abbrev pub NoneEmpty : List ℕ → Type 0
+NoneEmpty [] = Unit {0}
+NoneEmpty (n ∷ ns) = (0 < n) × NoneEmpty ns
+
+-- they add up to b,
+unfoldable pub total : List ℕ → ℕ
+total [] = 0
+total (n ∷ ns) = n + total ns
+
+-- and "a list of b bytes takes at most (b + 8) / 4064, rounded up, plus 1 runs"
 abbrev pub mostRuns : (b : ℕ) → ℕ
 mostRuns b = (b + 8 + 4063) / 4064 + 1
 
