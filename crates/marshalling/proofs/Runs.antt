@@ -12,7 +12,7 @@ use lib.Seq.{length-take-le}
 use Rattle.journal_ring.specs.Ring.{advance}
 use Rattle.journal_ring.proofs.Rotation.{advance-near, advance-far}
 use Rattle.marshalling.specs.Runs.{toBlockEnd, runAt, runsWithin, runsFrom, runsOf}
-use Rattle.marshalling.specs.Runs.{NoneEmpty, total, mostRuns, placeIn, runsLeft}
+use Rattle.marshalling.specs.Runs.{NoneEmpty, total, mostRuns, placeIn, runsLeft, Takes}
 
 -- The next run, before the ring's end and behind it.
 
@@ -161,6 +161,16 @@ run-within n done filled end r e h hn hb =
     ends : (block : ℕ) → end ≡ min block (n - done) → r ≤ block - filled → filled + r ≤ end
     ends block e hb = omega arith
 
+-- bytes that no run leads over, and runs one behind the other
+pub takes-none : (x y : List ℕ) (at n done : ℕ) → Takes x y at n done done 0
+unfolding Takes
+takes-none x y at n done = omega arith
+
+pub takes-then : (x y : List ℕ) (at n done mid next r s : ℕ) → Takes x y at n done mid r → Takes x y at n mid next s
+    → Takes x y at n done next (r + s)
+unfolding Takes
+takes-then x y at n done mid next r s e f = omega arith
+
 module _ (x y : List ℕ) (at n : ℕ) (there : at + n ≤ length x + length y) where
   abbrev size : ℕ
   size = length x + length y
@@ -198,33 +208,36 @@ module _ (x y : List ℕ) (at n : ℕ) (there : at + n ≤ length x + length y) 
       nearer ring block list h = omega arith
 
   -- none is left behind the list's end
-  pub left-none : (done : ℕ) → n ≤ done → runsLeft x y at n done ≡ 0
+  left-none : (done : ℕ) → n ≤ done → runsLeft x y at n done ≡ 0
   unfolding runsLeft
   left-none done h = ap length (no-turn n size place n done h)
 
-  -- behind the next run one less is left
-  pub run-counts : (done r : ℕ) → done < n → r ≡ runAt size place n done
-      → (0 < r) × (r ≤ n - done) × (r ≤ toBlockEnd done)
-      × (runsLeft x y at n done ≡ suc (runsLeft x y at n (done + r)))
-  unfolding runsLeft
-  run-counts done r more is =
+  -- the next run is one, not empty, and passes neither the list's end nor the block's
+  pub takes-one : (done r : ℕ) → done < n → r ≡ runAt size place n done
+      → (0 < r) × (r ≤ n - done) × (r ≤ toBlockEnd done) × Takes x y at n done (done + r) 1
+  unfolding Takes runsLeft
+  takes-one done r more is =
       let l = run-long size place n inside (omega arith) done more in
-      rw is (l .0, l .1, l .2, ap length (runs-next size place n inside (omega arith) done more))
+      let next : runsLeft x y at n done ≡ suc (runsLeft x y at n (done + runAt size place n done)) =
+      ap length (runs-next size place n inside (omega arith) done more) in
+      rw is (l .0, l .1, l .2, omega arith)
 
-  -- all that are left start behind the block's end
-  pub block-counts : (done end : ℕ) → end ≡ min (toBlockEnd done) (n - done)
-      → runsLeft x y at n (done + end) ≡ runsLeft x y at n (done + toBlockEnd done)
-  block-counts done end e =
+  -- behind the list's end there are none up to the block's
+  pub takes-block : (done end r : ℕ) → end ≡ min (toBlockEnd done) (n - done) → Takes x y at n done (done + end) r
+      → Takes x y at n done (done + toBlockEnd done) r
+  unfolding Takes
+  takes-block done end r e t =
       dite (decLt (n - done) (toBlockEnd done))
-      (λ h. left-none (done + end) (omega arith) ∙ sym (left-none (done + toBlockEnd done) (omega arith)))
-      (λ h. let q : end ≡ toBlockEnd done = omega arith in ap (λ (k : ℕ). runsLeft x y at n (done + k)) q)
+      (λ h. let left = left-none (done + end) (omega arith) in
+      let right = left-none (done + toBlockEnd done) (omega arith) in omega arith)
+      (λ h. let q : end ≡ toBlockEnd done = omega arith in rw q at t)
 
-  -- once none is left, all are made: as many as the definition says, and few
-  pub all-counts : (r done : ℕ) → n ≤ done → r + runsLeft x y at n done ≡ runsLeft x y at n 0
+  -- all of them are as many as the definition says, and few
+  pub takes-all : (next r : ℕ) → n ≤ next → Takes x y at n 0 next r
       → (r ≡ length (runsOf size place n)) × (r ≤ mostRuns n)
-  unfolding runsLeft
-  all-counts r done h e =
-      let none = left-none done h in
+  unfolding Takes runsLeft
+  takes-all next r h e =
+      let none = left-none next h in
       let same : r ≡ length (runsOf size place n) = omega arith in
       (same, rw same (runs-few size place n inside (omega arith)))
 

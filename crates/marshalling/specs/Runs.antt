@@ -1,6 +1,7 @@
 -- The runs by which a list goes from the ring into its image: document 02, paper 5. A list of b bytes lies in a ring
 -- of `size` bytes from `place` on, and goes behind the header's 8 bytes of the first block; `done` of its bytes are
 -- copied. Assumes nothing.
+use mathlib.Core.Path.{_≡_}
 use mathlib.Core.Bool.{cond}
 use mathlib.Core.List.{List, [], _∷_}
 use Prim.Native.Nat.{ℕ, zero, suc, _+_, _-_, _/_, _%_, _<_, min}
@@ -63,3 +64,7 @@ placeIn x y at = advance (length x + length y) (length y) at
 -- how many runs are left of its n bytes
 unfoldable pub runsLeft : (x y : List ℕ) (at n done : ℕ) → ℕ
 runsLeft x y at n done = length (runsFrom (length x + length y) (placeIn x y at) n done)
+
+-- r of these runs lead from `done` bytes copied to `next`
+unfoldable pub Takes : (x y : List ℕ) (at n done next r : ℕ) → Type 0
+Takes x y at n done next r = r + runsLeft x y at n next ≡ runsLeft x y at n done

@@ -1,15 +1,15 @@
 -- `marshalling::fill::fill_runs` meets its contract. The invariant: so many bytes of the list are copied, the part
--- behind them is as it was, and the runs made with those that are left are all. Assumes nothing.
+-- behind them is as it was, and that took as many runs as were made. Assumes nothing.
 use mathlib.Core.Path.{_≡_, refl}
 use mathlib.Core.List.{_++_}
-use Prim.Native.Nat.{suc, _+_, _-_, _≤_, _<_, min}
+use Prim.Native.Nat.{_+_, _-_, _≤_, _<_, min}
 use native.Mathlib.Nat.{add-assoc}
 use native.Mathlib.Omega.{arith}
 use borrow.Author.Needs.{needs}
 use lib.ListN.{length, take, drop, length-append}
-use Rattle.marshalling.specs.Runs.{toBlockEnd, runsLeft}
+use Rattle.marshalling.specs.Runs.{toBlockEnd, Takes}
 use Rattle.marshalling.proofs.Filling.{runs-more, runs-done}
-use Rattle.marshalling.proofs.Runs.{run-within, run-counts, block-counts}
+use Rattle.marshalling.proofs.Runs.{run-within, takes-none, takes-then, takes-one, takes-block}
 use Rattle.marshalling.proofs.fill.fill_runs.Statement.{statement}
 use Rattle.marshalling.proofs.fill.fill_runs.Tie as tie
 
@@ -17,25 +17,23 @@ abbrev Inv-loop : tie.InvT-loop
 Inv-loop dst₀ a b at n done end filled₀ runs₀ dst filled runs =
     (filled ≤ end) × (length dst ≡ length dst₀) × (runs ≤ filled)
     × (dst ≡ take filled (drop done (take n (drop at (a ++ b)))) ++ drop filled dst₀)
-    × (runs + runsLeft a b at n (done + filled) ≡ runsLeft a b at n done)
+    × Takes a b at n done (done + filled) runs
 
 abbrev μ-loop : tie.MeasureT-loop
 μ-loop dst₀ a b at n done end filled₀ runs₀ dst filled runs = end - filled
 
--- what is known where a run is copied: it is not empty, it has room, and one run less is left
+-- what is known where a run is copied
 run-known : (c : tie.After-copy-run Inv-loop μ-loop)
     → let w = c .before .before .before in
     let a = w .before .before .before .before .before .before .args in
     let done = a .done + w .loop .filled in
     let r = c .copy-run .result in
-    (0 < r) × (r ≤ a .n - done) × (r ≤ toBlockEnd done)
-    × (runsLeft (a .a .now) (a .b .now) (a .at) (a .n) done
-    ≡ suc (runsLeft (a .a .now) (a .b .now) (a .at) (a .n) (done + r)))
+    (0 < r) × (r ≤ a .n - done) × (r ≤ toBlockEnd done) × Takes (a .a .now) (a .b .now) (a .at) (a .n) done (done + r) 1
 run-known c =
     let w = c .before .before .before in
     let s = w .before .before .before .before .before .before in
     let a = s .args in
-    run-counts (a .a .now) (a .b .now) (a .at) (a .n) (s .pre .0) (a .done + w .loop .filled) (c .copy-run .result)
+    takes-one (a .a .now) (a .b .now) (a .at) (a .n) (s .pre .0) (a .done + w .loop .filled) (c .copy-run .result)
     (omega arith) (c .copy-run .ensures .1)
 
 -- and where it ends
@@ -58,7 +56,7 @@ loop-holds : tie.Need-loop-holds Inv-loop μ-loop
 loop-holds c =
     let a = c .before .before .before .before .before .args in
     let e : a .done + 0 ≡ a .done = omega arith in
-    (omega arith, refl, omega arith, refl, rw e (omega arith))
+    (omega arith, refl, omega arith, refl, rw e (takes-none (a .a .now) (a .b .now) (a .at) (a .n) (a .done)))
 
 sub-behind : tie.Need-sub-behind Inv-loop μ-loop
 sub-behind c = search needs
@@ -95,14 +93,15 @@ loop-again c =
     let a = s .args in
     let there : a .at + a .n ≤ length (a .a .now ++ a .b .now) = rw length-append (s .pre .0) in
     let k = run-known cr in
-    let on = add-assoc (a .done) (w .loop .filled) (cr .copy-run .result) in (
+    let on = add-assoc (a .done) (w .loop .filled) (cr .copy-run .result) in
+    let took = takes-then (a .a .now) (a .b .now) (a .at) (a .n) _ _ _ _ _ (w .loop .inv .4) (k .3) in (
       run-ends cr,
       search needs,
       omega arith,
       runs-more (a .a .now ++ a .b .now) (a .dst .now) (w .loop .dst) (a .at) (a .n) (a .done) (w .loop .filled) there
           (omega arith) (w .loop .inv .3) (cr .copy-run .last .0) (cr .copy-run .result) (k .1)
           (cr .copy-run .ensures .0),
-      rw (← on) (omega arith),
+      rw on at took,
     )
 
 sub-zero-fill : tie.Need-sub-zero-fill Inv-loop μ-loop
@@ -131,10 +130,10 @@ returns c =
     let e : w .loop .filled ≡ end = omega arith in
     let m : end ≡ min (length (a .dst .now)) (a .n - a .done) = omega arith in
     let so-far = rw e at (w .loop .inv) in
-    let k = block-counts (a .a .now) (a .b .now) (a .at) (a .n) (s .pre .0) (a .done) end (rw (s .pre .1) at m) in (
+    let ends = rw (s .pre .1) at m in (
       runs-done (a .a .now ++ a .b .now) (a .dst .now) (w .loop .dst) (a .at) (a .n) (a .done) end there (omega arith)
           (so-far .3) (z .zero-fill .last .0) m (z .zero-fill .ensures),
-      (omega arith, omega arith),
+      (takes-block (a .a .now) (a .b .now) (a .at) (a .n) (s .pre .0) (a .done) end _ ends (so-far .4), omega arith),
     )
 
 pub fill-runs-spec : {M : Type 1} → statement M
