@@ -47,7 +47,7 @@ returns c =
           (f .after .ensures .0) (omega arith) (cp .copy .ensures .1) (fr .fill-runs .last .0)
           (take (a .n) (drop (a .at) (a .a .now ++ a .b .now))) (ls .less .result) (m ∙ omega arith)
           (fr .fill-runs .ensures .0),
-      (rw (m, block-on (a .from) (s .pre .0 .2)) at (fr .fill-runs .ensures .1 .0), fr .fill-runs .ensures .1 .1),
+      (rw (m, block-on (a .from) (s .pre .0 .1)) at (fr .fill-runs .ensures .1 .0), fr .fill-runs .ensures .1 .1),
     )
 
 pub fill-payload-spec : {M : Type 1} → statement M
