@@ -10,7 +10,7 @@ use Rattle.disk_layout.specs.declared.Location.{Location}
 use Rattle.disk_layout.specs.DiskLayout.{blocksInRange, JournalPoint, ValidJournalLocation, JournalRangeLocation}
 use Rattle.disk_layout.specs.JournalInterval.{interval, ValidJournalInterval, ContiguousJournalInterval}
 use Rattle.disk_layout.specs.JournalInterval.{JournalFrontInterval, JournalBackInterval, subinterval}
-use Rattle.disk_layout.specs.JournalInterval.{journalCyclicIntervalOverlap, NextStartPoint}
+use Rattle.disk_layout.specs.JournalInterval.{journalCyclicIntervalOverlap, sharesBlock, NextStartPoint}
 use Rattle.disk_layout.specs.JournalInterval.{JournalIntervalOfLocation}
 
 -- where block i lies; point N is the region's end
@@ -49,6 +49,13 @@ overlapCall n a b =
     require blocksInRange n else 1 then
     require ValidJournalInterval n a && ValidJournalInterval n b else 16 then
     gives (journalCyclicIntervalOverlap n a b)
+
+-- "1, then 16, as for overlap": document 02, paper 6
+unfoldable pub sharesBlockCall : (n : ℕ) → JournalInterval → JournalInterval → Outcome Bool
+sharesBlockCall n a b =
+    require blocksInRange n else 1 then
+    require ValidJournalInterval n a && ValidJournalInterval n b else 16 then
+    gives (sharesBlock n a b)
 
 -- interval to location needs start + length ≤ N
 unfoldable pub locationCall : (n : ℕ) → JournalInterval → Outcome Location

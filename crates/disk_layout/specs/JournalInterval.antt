@@ -1,8 +1,8 @@
 -- Cyclic intervals of the journal's blocks: BlockCacheSystem/JournalInterval.i.dfy, with N (here n) for
 -- `NumJournalBlocks()`. Assumes nothing.
-use mathlib.Core.Bool.{Bool, true, _&&_, _||_, cond}
+use mathlib.Core.Bool.{Bool, true, false, _&&_, _||_, cond}
 use mathlib.Core.Option.{Option, none, some}
-use Prim.Native.Nat.{ℕ, _+_, _-_, _/_}
+use Prim.Native.Nat.{ℕ, zero, suc, _+_, _-_, _/_}
 use lib.Dec.{leb, ltb, eqb}
 use Rattle.disk_layout.specs.declared.JournalInterval.{JournalInterval}
 use Rattle.disk_layout.specs.declared.Location.{Location}
@@ -58,6 +58,15 @@ journalCyclicIntervalOverlap n a b =
     cond (ltb n (a .start + a .len))
     (cond (ltb n (b .start + b .len)) true (wrappedOverlap n a b))
     (cond (ltb n (b .start + b .len)) (wrappedOverlap n b a) (journalIntervalOverlap a b))
+
+-- some number below k passes the test
+unfoldable pub someBelow : (k : ℕ) → (ℕ → Bool) → Bool
+someBelow zero test = false
+someBelow (suc k) test = test k || someBelow k test
+
+-- "some block number below N lies in both intervals, cyclically": document 02, paper 6
+unfoldable pub sharesBlock : (n : ℕ) → JournalInterval → JournalInterval → Bool
+sharesBlock n a b = someBelow n (λ i. InCyclicRange n i a && InCyclicRange n i b)
 
 -- next start: the block behind the interval's last
 unfoldable pub NextStartPoint : (n : ℕ) → JournalInterval → ℕ

@@ -8,11 +8,11 @@ ghost use lib.Dec.{leb};
 ghost use Rattle.disk_layout.specs.DiskLayout.{blocksInRange, ValidJournalLocation};
 ghost use Rattle.disk_layout.specs.JournalInterval.{ValidJournalInterval, ContiguousJournalInterval, interval};
 ghost use Rattle.disk_layout.specs.JournalInterval.{journalIntervalOverlap, wrappedOverlap};
-ghost use Rattle.disk_layout.specs.JournalInterval.{journalCyclicIntervalOverlap, subinterval};
+ghost use Rattle.disk_layout.specs.JournalInterval.{journalCyclicIntervalOverlap, sharesBlock, subinterval};
 ghost use Rattle.disk_layout.specs.Answers.{partOutcome, intervalOutcome, locationOutcome, numberOutcome};
 ghost use Rattle.disk_layout.specs.Answers.{testOutcome};
 ghost use Rattle.disk_layout.specs.Calls.{pointCall, frontCall, backCall, nextStartCall, subintervalCall};
-ghost use Rattle.disk_layout.specs.Calls.{overlapCall, locationCall, intervalCall};
+ghost use Rattle.disk_layout.specs.Calls.{overlapCall, sharesBlockCall, locationCall, intervalCall};
 use refusals::Refusal;
 
 // So many blocks from a block on; behind block N - 1 comes block 0.
@@ -253,6 +253,34 @@ pub fn journal_cyclic_interval_overlap(n: u64, a: JournalInterval, b: JournalInt
         return TestAnswer::Refused(Refusal::PlaceNotValid);
     }
     TestAnswer::Is(cyclic_overlap(n, a, b))
+}
+
+// Whether a block lies in both. An empty interval has none, and of two others overlap tells.
+fn common_block(n: u64, a: JournalInterval, b: JournalInterval) -> bool
+    requires { ⌜ n ≤ 1024 ⌝ }
+    requires { ⌜ (ValidJournalInterval n a && ValidJournalInterval n b) ≡ true ⌝ }
+    ensures { λ r. ⌜ r ≡ sharesBlock n a b ⌝ }
+{
+    if a.len == 0 {
+        return false;
+    }
+    if b.len == 0 {
+        return false;
+    }
+    cyclic_overlap(n, a, b)
+}
+
+// Whether two intervals share a block. Unlike overlap, an empty one shares none.
+pub fn shares_block(n: u64, a: JournalInterval, b: JournalInterval) -> TestAnswer
+    ensures { λ r. ⌜ testOutcome r ≡ sharesBlockCall n a b ⌝ }
+{
+    if !blocks_in_range(n) {
+        return TestAnswer::Refused(Refusal::SizeOutOfRange);
+    }
+    if !both_valid(n, a, b) {
+        return TestAnswer::Refused(Refusal::PlaceNotValid);
+    }
+    TestAnswer::Is(common_block(n, a, b))
 }
 
 // Where the blocks of an interval that does not wrap lie.
