@@ -186,10 +186,14 @@ uint64_t journal_place_back(uint64_t n, uint64_t start, uint64_t len, uint64_t *
 /* The block behind an interval. */
 uint64_t journal_place_next_start(uint64_t n, uint64_t start, uint64_t len, uint64_t *answer, size_t answer_len);
 
-/* Whether interval a lies in b, and whether they overlap: 0 or 1. */
+/* Whether interval a lies in b; whether they overlap; whether some block lies in both: 0 or 1. Where both have blocks
+ * the last two are the same. An empty interval strictly inside another overlaps it, save at block 0, and shares no
+ * block with any. */
 uint64_t journal_place_contained(uint64_t n, uint64_t a_start, uint64_t a_len, uint64_t b_start, uint64_t b_len,
     uint64_t *answer, size_t answer_len);
 uint64_t journal_place_overlap(uint64_t n, uint64_t a_start, uint64_t a_len, uint64_t b_start, uint64_t b_len,
+    uint64_t *answer, size_t answer_len);
+uint64_t journal_place_shares_block(uint64_t n, uint64_t a_start, uint64_t a_len, uint64_t b_start, uint64_t b_len,
     uint64_t *answer, size_t answer_len);
 
 /* The location of an interval that does not wrap: address, length; and the interval of a location: start, length. */

@@ -134,6 +134,26 @@ fn overlap(n: u64, start: u64, len: u64, other_start: u64, other_len: u64) {
     ));
 }
 
+fn shares(n: u64, start: u64, len: u64, other_start: u64, other_len: u64) {
+    asked(b"shares", n);
+    pair(start, len);
+    pair(other_start, other_len);
+    show_test(disk_layout::shares_block(
+        n,
+        JournalInterval { start, len },
+        JournalInterval {
+            start: other_start,
+            len: other_len,
+        },
+    ));
+}
+
+// Both of the same two intervals.
+fn compared(n: u64, start: u64, len: u64, other_start: u64, other_len: u64) {
+    overlap(n, start, len, other_start, other_len);
+    shares(n, start, len, other_start, other_len);
+}
+
 fn location(n: u64, start: u64, len: u64) {
     asked(b"location", n);
     pair(start, len);
@@ -251,45 +271,45 @@ fn containments() {
     contained(10, 2, 4, 2, MAX);
 }
 
-fn overlaps() {
-    overlap(10, 2, 4, 5, 4);
-    overlap(10, 2, 4, 6, 2);
-    overlap(10, 6, 2, 2, 4);
-    overlap(10, 8, 5, 9, 2);
-    overlap(10, 8, 5, 2, 2);
-    overlap(10, 8, 5, 3, 5);
-    overlap(10, 2, 2, 8, 5);
-    overlap(10, 3, 5, 8, 5);
-    overlap(10, 7, 2, 8, 5);
-    overlap(1, 0, 1, 0, 1);
-    overlap(1024, 1023, 1024, 0, 1);
-    overlap(10, 10, 0, 2, 4);
-    overlap(10, 0, 11, 2, 4);
-    overlap(10, 2, 4, 10, 0);
-    overlap(10, 2, 4, 0, 11);
-    overlap(0, 0, 0, 0, 0);
-    overlap(1025, 0, 1, 0, 1);
-    overlap(MAX, 2, 4, 2, 4);
-    overlap(10, MAX, 1, 2, 4);
-    overlap(10, 2, MAX, 2, 4);
-    overlap(10, 2, 4, MAX, 1);
-    overlap(10, 2, 4, 2, MAX);
+fn comparisons() {
+    compared(10, 2, 4, 5, 4);
+    compared(10, 2, 4, 6, 2);
+    compared(10, 6, 2, 2, 4);
+    compared(10, 8, 5, 9, 2);
+    compared(10, 8, 5, 2, 2);
+    compared(10, 8, 5, 3, 5);
+    compared(10, 2, 2, 8, 5);
+    compared(10, 3, 5, 8, 5);
+    compared(10, 7, 2, 8, 5);
+    compared(1, 0, 1, 0, 1);
+    compared(1024, 1023, 1024, 0, 1);
+    compared(10, 10, 0, 2, 4);
+    compared(10, 0, 11, 2, 4);
+    compared(10, 2, 4, 10, 0);
+    compared(10, 2, 4, 0, 11);
+    compared(0, 0, 0, 0, 0);
+    compared(1025, 0, 1, 0, 1);
+    compared(MAX, 2, 4, 2, 4);
+    compared(10, MAX, 1, 2, 4);
+    compared(10, 2, MAX, 2, 4);
+    compared(10, 2, 4, MAX, 1);
+    compared(10, 2, 4, 2, MAX);
 }
 
 // An empty interval: inside another, at its ends, and at block 0.
 fn empties() {
-    overlap(10, 4, 0, 2, 4);
-    overlap(10, 2, 4, 4, 0);
-    overlap(10, 2, 0, 2, 4);
-    overlap(10, 6, 0, 2, 4);
-    overlap(10, 4, 0, 4, 0);
-    overlap(10, 9, 0, 8, 5);
-    overlap(10, 1, 0, 8, 5);
-    overlap(10, 8, 0, 8, 5);
-    overlap(10, 3, 0, 8, 5);
-    overlap(10, 0, 0, 8, 5);
-    overlap(10, 8, 5, 0, 0);
-    overlap(10, 0, 0, 0, 10);
+    compared(10, 4, 0, 2, 4);
+    compared(10, 2, 4, 4, 0);
+    compared(10, 2, 0, 2, 4);
+    compared(10, 6, 0, 2, 4);
+    compared(10, 4, 0, 4, 0);
+    compared(10, 9, 0, 8, 5);
+    compared(10, 1, 0, 8, 5);
+    compared(10, 8, 0, 8, 5);
+    compared(10, 3, 0, 8, 5);
+    compared(10, 0, 0, 8, 5);
+    compared(10, 8, 5, 0, 0);
+    compared(10, 0, 0, 0, 10);
 }
 
 fn locations() {
@@ -342,7 +362,7 @@ fn main() {
     backs();
     nexts();
     containments();
-    overlaps();
+    comparisons();
     empties();
     locations();
     intervals();

@@ -134,6 +134,8 @@ fn in_the_region() {
         assert_eq!(contained, answer(|w| calls::place_contained(n, s, k, t, l, w)));
         let overlap = places::overlap(n, a, b).map(u64::from).map(one);
         assert_eq!(overlap, answer(|w| calls::place_overlap(n, s, k, t, l, w)));
+        let shares = places::shares_block(n, a, b).map(u64::from).map(one);
+        assert_eq!(shares, answer(|w| calls::place_shares_block(n, s, k, t, l, w)));
         let location = places::location(n, a).map(|l| two((l.address, l.len)));
         assert_eq!(location, answer(|w| calls::place_location(n, s, k, w)));
         let interval = places::interval(n, at).map(|i| two((i.start, i.len)));

@@ -98,6 +98,7 @@ over_slices! {
     place_next_start = journal_place_next_start(n, start, len);
     place_contained = journal_place_contained(n, a_start, a_len, b_start, b_len);
     place_overlap = journal_place_overlap(n, a_start, a_len, b_start, b_len);
+    place_shares_block = journal_place_shares_block(n, a_start, a_len, b_start, b_len);
     place_location = journal_place_location(n, start, len);
     place_interval = journal_place_interval(n, addr, len);
 }

@@ -46,8 +46,16 @@ pub fn contained(n: u64, a: Interval, b: Interval) -> Result<bool, Refusal> {
         .map(|[is]| is == 1)
 }
 
+/// Whether they overlap, as upstream has it: an empty interval strictly inside another does too,
+/// save at block 0.
 pub fn overlap(n: u64, a: Interval, b: Interval) -> Result<bool, Refusal> {
     words(|answer| calls::place_overlap(n, a.start, a.len, b.start, b.len, answer))
+        .map(|[is]| is == 1)
+}
+
+/// Whether some block lies in both: overlap where both have blocks, and never where one has none.
+pub fn shares_block(n: u64, a: Interval, b: Interval) -> Result<bool, Refusal> {
+    words(|answer| calls::place_shares_block(n, a.start, a.len, b.start, b.len, answer))
         .map(|[is]| is == 1)
 }
 

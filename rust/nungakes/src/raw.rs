@@ -84,6 +84,15 @@ extern "C" {
         answer: *mut u64,
         answer_len: usize,
     ) -> u64;
+    pub fn journal_place_shares_block(
+        n: u64,
+        a_start: u64,
+        a_len: u64,
+        b_start: u64,
+        b_len: u64,
+        answer: *mut u64,
+        answer_len: usize,
+    ) -> u64;
     pub fn journal_place_location(
         n: u64,
         start: u64,

@@ -78,6 +78,12 @@ impl Interval {
             (false, false) => one_part(self, b),
         }
     }
+
+    /// A part of one, which has blocks and does not wrap, and a part of the other have one in common.
+    pub fn shares_block(self, b: Interval, n: i128) -> bool {
+        let parts = |a: Interval| [a.front(n), a.back(n)].into_iter().flatten();
+        parts(self).any(|p| parts(b).any(|q| p.start.max(q.start) < p.end().min(q.end())))
+    }
 }
 
 /// N, if it is in range.
@@ -146,6 +152,12 @@ pub fn overlap(n: u64, a: Interval, b: Interval) -> Words {
     let n = size(n)?;
     valid(a.is_valid(n) && b.is_valid(n))?;
     words([a.overlaps(b, n).into()])
+}
+
+pub fn shares_block(n: u64, a: Interval, b: Interval) -> Words {
+    let n = size(n)?;
+    valid(a.is_valid(n) && b.is_valid(n))?;
+    words([a.shares_block(b, n).into()])
 }
 
 /// It needs start + length ≤ N.

@@ -289,6 +289,7 @@ fn places(measure: &mut dyn FnMut(Row)) {
     measure(row!(journal_place_next_start, both(&[0, 1], &wraps)));
     measure(row!(journal_place_contained, both(&[0, 1, 0, 1], &[n - 1, 9, n - 1, n])));
     measure(row!(journal_place_overlap, both(&[0, 1, 0, 1], &[5, 9, n - 1, n])));
+    measure(row!(journal_place_shares_block, both(&[0, 1, 0, 1], &[5, 9, n - 1, n])));
     measure(row!(journal_place_location, both(&[0, 1], &[0, n])));
     measure(row!(journal_place_interval, both(&[8_192, 4_096], &[8_192, 4_096 * n])));
 }

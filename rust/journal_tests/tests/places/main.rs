@@ -1,5 +1,7 @@
-//! The calls on places in the region: document 01's cases 9 and 10, and the model on every interval
-//! of small regions and on random numbers.
+//! The calls on places in the region: document 01's cases 9 and 10, the model on every interval of
+//! small regions and on random numbers, and blocks shared against sets of numbers.
+mod sharing;
+
 use journal_tests::guarded::Guarded;
 use journal_tests::model::block::BLOCK;
 use journal_tests::model::places::{self as model, interval, Interval, Words};
@@ -59,6 +61,13 @@ const OVERLAP: Call = Call {
     model: |n, [a, k, b, l]| model::overlap(n, interval(a, k), interval(b, l)),
 };
 
+const SHARES_BLOCK: Call = Call {
+    name: "shares a block",
+    words: 1,
+    made: |n, [a, k, b, l], answer| calls::place_shares_block(n, a, k, b, l, answer),
+    model: |n, [a, k, b, l]| model::shares_block(n, interval(a, k), interval(b, l)),
+};
+
 const LOCATION: Call = Call {
     name: "location",
     words: 2,
@@ -74,8 +83,9 @@ const INTERVAL: Call = Call {
 };
 
 const OF_ONE: [Call; 4] = [FRONT, BACK, NEXT_START, LOCATION];
-const OF_TWO: [Call; 2] = [CONTAINED, OVERLAP];
-const ALL: [Call; 8] = [OF_BLOCK, FRONT, BACK, NEXT_START, CONTAINED, OVERLAP, LOCATION, INTERVAL];
+const OF_TWO: [Call; 3] = [CONTAINED, OVERLAP, SHARES_BLOCK];
+const ALL: [Call; 9] =
+    [OF_BLOCK, FRONT, BACK, NEXT_START, CONTAINED, OVERLAP, SHARES_BLOCK, LOCATION, INTERVAL];
 
 /// So many words before the lent ones are compared too. Behind them is the guard.
 const BEFORE: usize = 2;
@@ -284,8 +294,8 @@ fn blocks(Interval { start, len }: Interval, n: i128) -> Vec<i128> {
 }
 
 /// The model itself, by the blocks of its intervals: the parts are all the blocks, next start is the
-/// block behind them, one lies in another where its blocks come in a row there, and two overlap where
-/// they share a block.
+/// block behind them, two share a block where one is in both lists, and of two that have blocks, one
+/// lies in the other where its blocks come in a row there, and they overlap where they share a block.
 #[test]
 fn the_model_says_what_the_blocks_say() {
     for n in 1..=6 {
@@ -297,13 +307,15 @@ fn the_model_says_what_the_blocks_say() {
             let listed = parts.flat_map(|part| part.start..part.start + part.len);
             assert!(listed.eq(own.iter().copied()), "{a:?} of {n}");
             assert_eq!(a.next_start(n), (a.start + a.len) % n);
-            // without blocks there is nothing to share
-            for &b in all.iter().filter(|b| a.len > 0 && b.len > 0) {
+            for &b in &all {
                 let others = blocks(b, n);
-                let in_a_row = others.windows(own.len()).any(|row| row == own);
-                assert_eq!(a.is_in(b, n), in_a_row, "{a:?} in {b:?} of {n}");
                 let shared = own.iter().any(|block| others.contains(block));
-                assert_eq!(a.overlaps(b, n), shared, "{a:?} and {b:?} of {n}");
+                assert_eq!(a.shares_block(b, n), shared, "{a:?} and {b:?} of {n}");
+                if a.len > 0 && b.len > 0 {
+                    let in_a_row = others.windows(own.len()).any(|row| row == own);
+                    assert_eq!(a.is_in(b, n), in_a_row, "{a:?} in {b:?} of {n}");
+                    assert_eq!(a.overlaps(b, n), shared, "{a:?} and {b:?} of {n}");
+                }
             }
         }
     }
