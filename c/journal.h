@@ -22,7 +22,7 @@
 extern "C" {
 #endif
 
-#define JOURNAL_LIBRARY_VERSION "0.5.1"
+#define JOURNAL_LIBRARY_VERSION "0.6.0"
 
 /* A code's number; and of JOURNAL_CHECKSUM_DIFFERS the lowest block that differs. */
 #define JOURNAL_NUMBER(code) ((code) & 255)
