@@ -1,14 +1,15 @@
 -- Laws of the definitions on intervals. Assumes nothing.
 use Prim.Native.Nat.{ℕ, _+_, _-_, _≤_, _<_}
-use mathlib.Core.Bool.{Bool, true, false, cond, _&&_}
+use mathlib.Core.Bool.{Bool, true, false, cond, _&&_, or-true}
 use mathlib.Core.Path.{_≡_, refl, sym, _∙_}
 use lib.Dec.{leb, ltb}
 use native.Mathlib.Omega.{arith}
 use borrow.Author.Tests.{leb-true, ltb-true, le-leb, lt-ltb, le-ltb}
 use Rattle.disk_layout.specs.declared.JournalInterval.{JournalInterval}
 use Rattle.disk_layout.specs.DiskLayout.{blocksInRange}
-use Rattle.disk_layout.specs.JournalInterval.{ValidJournalInterval, ContiguousJournalInterval, NextStartPoint}
-use Rattle.refusals.proofs.Tests.{both, same, never}
+use Rattle.disk_layout.specs.JournalInterval.{ValidJournalInterval, ContiguousJournalInterval, InCyclicRange}
+use Rattle.disk_layout.specs.JournalInterval.{NextStartPoint}
+use Rattle.refusals.proofs.Tests.{both, either, same, never}
 
 -- what each test tells of its numbers, and back
 pub range-facts : (n : ℕ) → blocksInRange n ≡ true → (1 ≤ n) × (n ≤ 1024)
@@ -62,6 +63,29 @@ contiguous-room n i s =
 pub contiguous-past : (n : ℕ) (i : JournalInterval) → n ≤ i .start → ltb (i .start) n ≡ ContiguousJournalInterval n i
 contiguous-past n i s =
     le-ltb (i .start) n s ∙ sym (never (ContiguousJournalInterval n i) (λ h. omega (arith, contiguous-facts n i h)))
+
+-- a block is one of the interval's as it stands or N places further on,
+pub in-told : {C : Type 0} (n i : ℕ) (x : JournalInterval) → InCyclicRange n i x ≡ true
+    → (x .start ≤ i → i < x .start + x .len → C) → (x .start ≤ i + n → i + n < x .start + x .len → C) → C
+unfolding InCyclicRange
+in-told n i x h here on =
+    either (leb (x .start) i && ltb i (x .start + x .len)) _ h
+    (λ e. let (a, b) = both (leb (x .start) i) _ e in here (leb-true _ _ a) (ltb-true _ _ b))
+    (λ e. let (a, b) = both (leb (x .start) (i + n)) _ e in on (leb-true _ _ a) (ltb-true _ _ b))
+
+-- and back;
+pub in-here : (n i : ℕ) (x : JournalInterval) → x .start ≤ i → i < x .start + x .len → InCyclicRange n i x ≡ true
+unfolding InCyclicRange
+in-here n i x s e = simp (le-leb (x .start) i s, lt-ltb i (x .start + x .len) e)
+
+pub in-on : (n i : ℕ) (x : JournalInterval) → x .start ≤ i + n → i + n < x .start + x .len → InCyclicRange n i x ≡ true
+unfolding InCyclicRange
+in-on n i x s e = simp (le-leb (x .start) (i + n) s, lt-ltb (i + n) (x .start + x .len) e, or-true)
+
+-- it is none where it is neither
+pub in-not : (n i : ℕ) (x : JournalInterval) → (x .start ≤ i → i < x .start + x .len → ⊥)
+    → (x .start ≤ i + n → i + n < x .start + x .len → ⊥) → InCyclicRange n i x ≡ false
+in-not n i x here on = never (InCyclicRange n i x) λ h. in-told n i x h here on
 
 -- next start is a block of the region
 pub next-start-below : (n : ℕ) (i : JournalInterval) → ValidJournalInterval n i ≡ true → NextStartPoint n i < n

@@ -14,7 +14,7 @@ use Rattle.disk_layout.specs.Calls.{frontCall, backCall, locationCall}
 use Rattle.refusals.specs.Outcome.{Outcome, gives, require_else_then_}
 use Rattle.refusals.proofs.Tests.{ltb-same, impossible}
 use Rattle.refusals.proofs.Outcomes.{gives-same, require-told}
-use Rattle.disk_layout.proofs.Intervals.{valid-facts, contiguous-true}
+use Rattle.disk_layout.proofs.Intervals.{valid-facts, contiguous-true, in-not}
 
 -- the back by the room behind the start alone: no blocks are within any room
 pub back-none : (n start len : ℕ) → len ≤ n - start → JournalBackInterval n start len ≡ none
@@ -62,19 +62,12 @@ pub parts-blocks : (n start len k : ℕ) → ValidJournalInterval n (interval st
 unfolding JournalFrontInterval JournalBackInterval InCyclicRange
 parts-blocks n start len k v h = go (eqb len 0) (leb len (n - start)) refl refl
   where
-    none-in : (t : Bool) → len ≡ 0 → leb start k ≡ t → InCyclicRange n k (interval start len) ≡ false
-    none-in true z q =
-        let l = leb-true start k q in
-        simp (le-ltb k (start + len) (omega arith), le-ltb (k + n) (start + len) (omega arith), and-false)
-    none-in false z q =
-        let f = valid-facts n (interval start len) v in
-        simp (q, le-ltb (k + n) (start + len) (omega arith), and-false)
-
     go : (s t : Bool) → eqb len 0 ≡ s → leb len (n - start) ≡ t →
         InCyclicRange n k (interval start len)
         ≡ (inPart n k (cond s none (some (interval start (cond t len (n - start)))))
         || inPart n k (cond s none (cond t none (some (interval 0 (len - (n - start)))))))
-    go true t p q = none-in (leb start k) (eqb-true len 0 p) refl
+    go true t p q =
+        let z = eqb-true len 0 p in in-not n k (interval start len) (λ a b. omega arith) (λ a b. omega arith)
     go false true p q = simp or-false
     go false false p q =
         let f = valid-facts n (interval start len) v in

@@ -1,30 +1,25 @@
 -- Laws of blocks shared: document 02, paper 6. Assumes nothing.
 use Prim.Native.Nat.{ℕ, zero, suc, _+_, _-_, _≤_, _<_}
 use mathlib.Core.Bool.{Bool, true, false, _&&_, _||_, cond, and-comm, or-true}
-use mathlib.Core.Logic.{_⊎_, inl, inr, ⊎-elim, _↔_}
+use mathlib.Core.Logic.{_↔_}
 use mathlib.Core.Path.{_≡_, refl, _∙_}
 use lib.Dec.{leb, ltb, eqb}
 use native.Mathlib.Omega.{arith}
-use borrow.Author.Tests.{le-leb, lt-ltb, leb-true, leb-false, ltb-true, ltb-false, eqb-true, eqb-false}
+use borrow.Author.Tests.{lt-ltb, leb-true, leb-false, ltb-true, ltb-false, eqb-true, eqb-false}
 use Rattle.disk_layout.specs.declared.JournalInterval.{JournalInterval}
 use Rattle.disk_layout.specs.JournalInterval.{interval, ValidJournalInterval, InCyclicRange}
 use Rattle.disk_layout.specs.JournalInterval.{journalIntervalOverlap, wrappedOverlap}
 use Rattle.disk_layout.specs.JournalInterval.{journalCyclicIntervalOverlap, someBelow, sharesBlock}
-use Rattle.refusals.proofs.Tests.{both, same, never, impossible}
-use Rattle.disk_layout.proofs.Intervals.{BothValid, both-facts}
-
--- one test of a pair
-either : (s t : Bool) → (s || t) ≡ true → (s ≡ true) ⊎ (t ≡ true)
-either true t h = inl refl
-either false t h = inr h
+use Rattle.refusals.proofs.Tests.{both, either, same, never, impossible}
+use Rattle.disk_layout.proofs.Intervals.{BothValid, both-facts, in-told, in-here, in-on}
 
 -- where `someBelow` says so, there is a number below k that passes the test,
 below-told : (k : ℕ) (test : ℕ → Bool) → someBelow k test ≡ true → (i : ℕ) × (i < k) × (test i ≡ true)
 unfolding someBelow
 below-told zero test h = impossible cc
 below-told (suc k) test h =
-    ⊎-elim (λ e. (k, omega arith, e)) (λ e. let r = below-told k test e in (r .0, omega (arith, r .1), r .2))
-    (either (test k) (someBelow k test) h)
+    either (test k) (someBelow k test) h (λ e. (k, omega arith, e))
+    (λ e. let r = below-told k test e in (r .0, omega (arith, r .1), r .2))
 
 -- and back
 below-true : (k i : ℕ) (test : ℕ → Bool) → i < k → test i ≡ true → someBelow k test ≡ true
@@ -56,40 +51,13 @@ pub shares-symmetric : (n : ℕ) (a b : JournalInterval) → sharesBlock n a b �
 unfolding sharesBlock
 shares-symmetric n a b = λ j. someBelow n (λ i. and-comm (InCyclicRange n i a) (InCyclicRange n i b) j)
 
--- a block is one of the interval's as it stands or N places further on,
-in-told : (n i : ℕ) (x : JournalInterval) → InCyclicRange n i x ≡ true
-    → ((x .start ≤ i) × (i < x .start + x .len)) ⊎ ((x .start ≤ i + n) × (i + n < x .start + x .len))
-unfolding InCyclicRange
-in-told n i x h = ⊎-elim (λ e. inl (between i e)) (λ e. inr (between (i + n) e)) (either _ _ h)
-  where
-    between : (k : ℕ) → (leb (x .start) k && ltb k (x .start + x .len)) ≡ true
-        → (x .start ≤ k) × (k < x .start + x .len)
-    between k e =
-        let p = both (leb (x .start) k) (ltb k (x .start + x .len)) e in
-        (leb-true (x .start) k (p .0), ltb-true k (x .start + x .len) (p .1))
-
--- the first where the interval does not wrap,
-contiguous-told : (n i : ℕ) (x : JournalInterval) → x .start + x .len ≤ n → InCyclicRange n i x ≡ true
-    → (x .start ≤ i) × (i < x .start + x .len)
-contiguous-told n i x c h = ⊎-elim (λ f. f) (λ f. absurd (omega (arith, f))) (in-told n i x h)
-
--- and both ways back
-as-it-stands : (n i : ℕ) (x : JournalInterval) → x .start ≤ i → i < x .start + x .len → InCyclicRange n i x ≡ true
-unfolding InCyclicRange
-as-it-stands n i x s e = simp (le-leb (x .start) i s, lt-ltb i (x .start + x .len) e)
-
-further-on : (n i : ℕ) (x : JournalInterval) → x .start ≤ i + n → i + n < x .start + x .len → InCyclicRange n i x ≡ true
-unfolding InCyclicRange
-further-on n i x s e = simp (le-leb (x .start) (i + n) s, lt-ltb (i + n) (x .start + x .len) e, or-true)
-
 -- an empty interval shares nothing
 pub empty-shares : (n : ℕ) (a b : JournalInterval) → a .len ≡ 0 → sharesBlock n a b ≡ false
 empty-shares n a b z =
     never (sharesBlock n a b) λ h.
-    let s = shares-exactly n a b .0 h in
-    ⊎-elim (λ f. omega (arith, f)) (λ f. omega (arith, f)) (in-told n (s .0) a (s .2))
+    let s = shares-exactly n a b .0 h in in-told n (s .0) a (s .2) (λ e f. omega arith) (λ e f. omega arith)
 
--- Two intervals that do not wrap: where they overlap and have blocks, one starts in the other,
+-- Of two intervals that do not wrap: where they overlap and have blocks, a block lies in both,
 between-told : (x y : JournalInterval) → 0 < x .len → 0 < y .len → journalIntervalOverlap x y ≡ true → (i : ℕ)
     × (x .start ≤ i) × (i < x .start + x .len) × (y .start ≤ i) × (i < y .start + y .len)
 unfolding journalIntervalOverlap
@@ -107,12 +75,17 @@ between-told x y k l h = go (leb (x .start) (y .start)) refl
     go false q = let f = facts in let g = leb-false (x .start) (y .start) q in
         (x .start, omega arith, omega arith, omega arith, omega arith)
 
--- and where a block lies in both, they overlap
+-- and where one does, they overlap
 between-true : (i : ℕ) (x y : JournalInterval) → x .start ≤ i → i < x .start + x .len → y .start ≤ i
     → i < y .start + y .len → journalIntervalOverlap x y ≡ true
 unfolding journalIntervalOverlap
 between-true i x y a b c d =
     simp (lt-ltb (y .start) (x .start + x .len) (omega arith), lt-ltb (x .start) (y .start + y .len) (omega arith))
+
+-- a block of an interval that does not wrap
+contiguous-told : (n i : ℕ) (x : JournalInterval) → x .start + x .len ≤ n → InCyclicRange n i x ≡ true
+    → (x .start ≤ i) × (i < x .start + x .len)
+contiguous-told n i x c h = in-told n i x h (λ s e. (s, e)) (λ s e. absurd (omega arith))
 
 -- An interval that wraps, taken as its two parts, neither of them empty, and one that does not.
 wrapped-agree : (n : ℕ) (a b : JournalInterval) → BothValid n a b → n < a .start + a .len → b .start + b .len ≤ n
@@ -120,7 +93,7 @@ wrapped-agree : (n : ℕ) (a b : JournalInterval) → BothValid n a b → n < a 
 unfolding wrappedOverlap
 wrapped-agree n a b v w c l =
     same (sharesBlock n a b) (wrappedOverlap n a b) (λ h. overlaps (shares-exactly n a b .0 h))
-    (λ h. shares-exactly n a b .1 (⊎-elim in-front in-back (either _ _ h)))
+    (λ h. shares-exactly n a b .1 (either (journalIntervalOverlap front b) _ h in-front in-back))
   where
     front : JournalInterval
     front = interval (a .start) (n - a .start)
@@ -132,7 +105,7 @@ wrapped-agree n a b v w c l =
     in-front h =
         let r = between-told front b (omega (arith, v)) l h in
         let i = r .0 in
-        (i, omega (arith, r), as-it-stands n i a (r .1) (omega (arith, v, r)), as-it-stands n i b (r .3) (r .4))
+        (i, omega (arith, r), in-here n i a (r .1) (omega (arith, v, r)), in-here n i b (r .3) (r .4))
 
     in-back : journalIntervalOverlap back b ≡ true → Common n a b
     in-back h =
@@ -140,8 +113,8 @@ wrapped-agree n a b v w c l =
         let i = r .0 in (
           i,
           omega (arith, r),
-          further-on n i a (omega (arith, v)) (omega (arith, v, r)),
-          as-it-stands n i b (r .3) (r .4),
+          in-on n i a (omega (arith, v)) (omega (arith, v, r)),
+          in-here n i b (r .3) (r .4),
         )
 
     overlaps : Common n a b → wrappedOverlap n a b ≡ true
@@ -149,9 +122,8 @@ wrapped-agree n a b v w c l =
         let i = s .0 in
         let below = s .1 in
         let f = contiguous-told n i b c (s .3) in
-        ⊎-elim (λ e. simp (between-true i front b (e .0) (omega (arith, v)) (f .0) (f .1)))
-        (λ e. simp (between-true i back b (omega arith) (omega (arith, v, e)) (f .0) (f .1), or-true))
-        (in-told n i a (s .2))
+        in-told n i a (s .2) (λ x y. simp (between-true i front b x (omega (arith, v)) (f .0) (f .1)))
+        (λ x y. simp (between-true i back b (omega arith) (omega (arith, v)) (f .0) (f .1), or-true))
 
 -- "The two agree whenever both are non-empty."
 pub shares-overlap : (n : ℕ) (a b : JournalInterval) → (ValidJournalInterval n a && ValidJournalInterval n b) ≡ true
@@ -174,8 +146,8 @@ shares-overlap n a b valid k l = go (ltb n (a .start + a .len)) (ltb n (b .start
         shares-exactly n a b .1 (
           0,
           omega (arith, v),
-          further-on n 0 a (omega (arith, v)) (omega arith),
-          further-on n 0 b (omega (arith, v)) (omega arith),
+          in-on n 0 a (omega (arith, v)) (omega arith),
+          in-on n 0 b (omega (arith, v)) (omega arith),
         )
     go true false p q =
         wrapped-agree n a b v (ltb-true n (a .start + a .len) p) (ltb-false n (b .start + b .len) q) l
@@ -197,6 +169,6 @@ shares-overlap n a b valid k l = go (ltb n (a .start + a .len)) (ltb n (b .start
         shares-exactly n a b .1 (
           i,
           omega (arith, r),
-          as-it-stands n i a (r .1) (r .2),
-          as-it-stands n i b (r .3) (r .4),
+          in-here n i a (r .1) (r .2),
+          in-here n i b (r .3) (r .4),
         ))
