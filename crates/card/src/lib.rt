@@ -1,5 +1,7 @@
 // The region on the unit's card: document 02, paper 3. A card is a lent slice of (2 + N) × 4096 bytes: block 0,
 // which names the live interval, block 1, which is unused, and the journal's N blocks.
+#![tactic(auto)]
+
 mod in_place;
 mod super_block;
 
@@ -151,7 +153,7 @@ fn store_next(n: u64, card: &mut [u8], image: &[u8], made: usize)
         let end = from + 4096;
         let to = 8192 + 4096 * (block_on(n, start, len + made as u32) as usize);
         let over = to + 4096;
-        bytes::copy(&image[from..end], &mut card[to..over]);
+        card[to..over].copy_from_slice(&image[from..end]);
         return;
     }
     rewrite(card, start, len + blocks as u32);

@@ -32,10 +32,10 @@ pub(crate) fn write_superblock(block: &mut [u8], start: u32, len: u32)
     ensures { block.new ≡ superblock start len }
 {
     let fields = super_fields(start, len);
-    bytes::copy(&fields, &mut block[32..46]);
+    block[32..46].copy_from_slice(&fields);
     words::zero_fill(&mut block[46..4096]);
     let sum = crc32c::checksum(&block[32..4096]);
-    bytes::copy(&sum, block);
+    block[0..32].copy_from_slice(&sum);
 }
 
 // Whether a block is the one that names an interval.
@@ -44,7 +44,7 @@ pub(crate) fn is_superblock(block: &[u8], start: u32, len: u32) -> bool
     ensures { result ≡ same_bytes block.now (superblock start len) }
 {
     let fields = super_fields(start, len);
-    if !check::same(&block[32..46], &fields) {
+    if block[32..46] != fields {
         return false;
     }
     if !words::all_zero(&block[46..4096]) {

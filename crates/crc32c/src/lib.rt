@@ -1,4 +1,6 @@
 // CRC-32C of a slice of bytes, and the 32 bytes at a block's head.
+#![tactic(auto)]
+
 ghost use Rattle.std.specs.Prelude.{◌≡◌};
 ghost use mathlib.Core.List.{[], ◌∷◌, foldl};
 ghost use Rattle.crc32c_register.specs.Register.{step_byte};

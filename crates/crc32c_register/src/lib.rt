@@ -1,5 +1,7 @@
 // The register of CRC-32C: its steps as RFC 3720 has them, bit by bit, and a byte's and a word's by tables of half
 // bytes.
+#![tactic(auto)]
+
 ghost use Rattle.std.specs.Prelude.{◌≡◌};
 ghost use Rattle.crc32c_register.specs.Register.{step_bit, step_bits, step_byte};
 

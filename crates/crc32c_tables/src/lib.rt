@@ -1,4 +1,6 @@
 // Sixteen bytes' steps of the register of CRC-32C at once, by four tables.
+#![tactic(auto)]
+
 ghost use Rattle.std.specs.Prelude.{◌≡◌};
 ghost use Rattle.crc32c_register.specs.Register.{step_bits};
 

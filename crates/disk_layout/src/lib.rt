@@ -1,6 +1,8 @@
 // Places in the region: intervals of the journal's blocks, which wrap at the region's end, and their bytes' addresses.
 // Every argument may be any 64-bit number. A call first tests N (refusal 1), then the interval or the location
 // (refusal 16).
+#![tactic(auto)]
+
 ghost use Rattle.std.specs.Prelude.{◌≡◌, true, ◌&&◌, ◌+◌, ◌≤◌, ◌<◌, leb};
 ghost use Rattle.disk_layout.specs.DiskLayout.{blocks_in_range, valid_journal_location};
 ghost use Rattle.disk_layout.specs.JournalInterval.{valid_journal_interval, contiguous_journal_interval, interval};

@@ -2,6 +2,8 @@
 // checksum and 4,064 of payload. (A cyclic run of blocks is at most two runs; an image that lies in one slice is
 // that slice and nothing.) Nothing is copied: the readers look at length words alone. Their promises are over
 // `imagePayload`, the payload of all blocks, in the definitions of those that read payload.
+#![tactic(auto)]
+
 ghost use Rattle.std.specs.Prelude.{◌≡◌, ◌++◌, ◌+◌, ◌*◌, ◌/◌, ◌<◌, length, drop, get_or};
 ghost use Rattle.journal_entry.specs.Places.{word_at, entry_at, entries_end};
 ghost use Rattle.journal_range.specs.Payload.{front_batch, batch_answer, range_answer, range_of};

@@ -1,5 +1,7 @@
 // Journal entries read from a byte sequence that is two lent slices joined, a ++ b: front and back, the two parts
 // of a ring, one slice and nothing.
+#![tactic(auto)]
+
 ghost use Rattle.std.specs.Prelude.{◌≡◌, cond, List, ◌++◌, ℕ, ◌+◌, ◌-◌, ◌≤◌, ◌<◌, leb, length, get_or};
 ghost use Rattle.journal_entry.specs.Entry.{clone_mark, second_limit};
 ghost use Rattle.journal_entry.specs.Places.{word_at, kind_of, is_clone_kind, entry_at, entries_end, entries_counted};

@@ -1,5 +1,7 @@
 // From an image back to payload: document 01, "Back to entries" (strip).
 // An image is whole blocks of 4,096 bytes: 32 of checksum, then 4,064 of payload.
+#![tactic(auto)]
+
 ghost use Rattle.std.specs.Prelude.{◌≡◌, ◌*◌, ◌/◌, ◌≤◌, min, length};
 ghost use Rattle.std.proofs.Math.Option.{get_or};
 ghost use Rattle.journal_image.specs.Image.{checksum_checks_out, payloads_over, lowest_damaged};
@@ -34,7 +36,7 @@ pub fn block_agrees(block: &[u8]) -> bool
         return false;
     }
     let sum = crc32c::checksum(&block[32..]);
-    check::same(&block[0..32], &sum)
+    block[0..32] == sum
 }
 
 // The lowest damaged one of so many blocks, or their number where none is.
@@ -81,7 +83,7 @@ fn copy_blocks(image: &[u8], out: &mut [u8], blocks: usize)
         let end = from + 4064;
         let at = 4064 * done;
         let next = at + 4064;
-        bytes::copy(&image[from..end], &mut out[at..next]);
+        out[at..next].copy_from_slice(&image[from..end]);
         done += 1;
     }
 }

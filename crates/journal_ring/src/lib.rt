@@ -1,4 +1,6 @@
 // Entries' wire forms written into the lent byte ring, in runs over plain slices.
+#![tactic(auto)]
+
 ghost use Rattle.std.specs.Prelude.{◌≡◌, ◌+◌, ◌<◌, ◌≤◌, length};
 ghost use Rattle.words.specs.Words.{word};
 ghost use Rattle.journal_entry.specs.Entry.{clone_mark, second_limit, entry_of, wire};
@@ -32,7 +34,7 @@ fn copy_whole(src: &[u8], dst: &mut [u8])
     requires { length dst.old ≡ length src.now }
     ensures { dst.new ≡ src.now }
 {
-    bytes::copy(src, dst);
+    dst.copy_from_slice(src);
 }
 
 // Writes src into the ring from `at` on, in one run or two, and returns the place behind it.

@@ -1,5 +1,7 @@
 // Reads an image on standard input and prints its entries, or why it cannot: document 01, the end of "Cases". Where
 // the input cannot be read it prints `unread`.
+#![tactic(auto)]
+
 ghost use Rattle.std.specs.Prelude.{◌≡◌, length};
 ghost use Rattle.lister.specs.Lister.{listed_payload, listed_image};
 

@@ -1,5 +1,7 @@
 // The calls on places in the region, run on cases 9 and 10, on the examples of document 01 and on the ends of every
 // range. What they must come to is in the file stdout.
+#![tactic(auto)]
+
 use disk_layout::{
     IntervalAnswer, JournalInterval, Location, LocationAnswer, NumberAnswer, PartAnswer, TestAnswer,
 };

@@ -7,6 +7,8 @@
 //  5 frozen bytes          11 replay bytes          17 clones in both lists
 // 18 entries, 19 bytes and 20 blocks of the last freeze
 // Words behind them are neither read nor changed.
+#![tactic(auto)]
+
 ghost use Rattle.std.specs.Prelude.{◌≡◌, ◌++◌, ◌≤◌, length, drop};
 ghost use Rattle.journalist.specs.Answers.{record_outcome};
 ghost use Rattle.journalist.specs.Calls.{present};

@@ -1,5 +1,7 @@
 // Why a call says no: the rows of document 01's table "When a call says no" and of document 02's papers, one case a
 // row. Row 12 (a checksum differs) has no case: it names a block, so the answers that can give it carry both.
+#![tactic(auto)]
+
 ghost use Rattle.std.specs.Prelude.{◌≡◌};
 ghost use Rattle.refusals.specs.Refusals.{number_of};
 

@@ -1,4 +1,6 @@
 // The replay's cursor by value: what is left of a replay, its top entry, and the cursor behind that.
+#![tactic(auto)]
+
 ghost use Rattle.std.specs.Prelude.{◌≡◌};
 ghost use Rattle.refusals.specs.Outcome.{gives};
 ghost use Rattle.replay_cursor.specs.Cursor.{counts_hang, lies_in};

@@ -1,4 +1,6 @@
 // RFC 3720, appendix B.4: the CRC-32C of its five examples, each as the first four bytes at a block's head.
+#![tactic(auto)]
+
 use libc::STDOUT_FILENO;
 
 fn print_byte(b: u8, end: &[u8]) {

@@ -1,4 +1,6 @@
 // Numbers as bytes, lowest byte first; and bytes that are zero.
+#![tactic(auto)]
+
 ghost use Rattle.std.specs.Prelude.{◌≡◌, [], ◌∷◌, length, replicate};
 ghost use Rattle.words.specs.Words.{unpack};
 ghost use Rattle.words.specs.Lists.{all_zero};
