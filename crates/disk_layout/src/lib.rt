@@ -16,14 +16,14 @@ ghost use Rattle.disk_layout.specs.Calls.{overlap_call, shares_block_call, locat
 use refusals::Refusal;
 
 // So many blocks from a block on; behind block N - 1 comes block 0.
-#[derive(Drop)]
+#[derive(Clone, Copy)]
 pub struct JournalInterval {
     pub start: u64,
     pub len: u64,
 }
 
 // So many bytes from an address on.
-#[derive(Drop)]
+#[derive(Clone, Copy)]
 pub struct Location {
     pub addr: u64,
     pub len: u64,

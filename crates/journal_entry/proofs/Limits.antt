@@ -36,6 +36,7 @@ all_larger a b h (e ∷ es) w = (one e w.0, all_larger a b h es w.1)
 
 -- a list is within a limit or has a value longer than it, and not both
 pub longer_out : (limit : ℕ) (es : List JournalEntry) → HasLonger limit es → AllWithinAt limit es → ⊥
+longer_out limit [] x w = elim x [ ]
 longer_out limit (e ∷ es) (here l) w = let h = w.0.second_fits in omega arith
 longer_out limit (e ∷ es) (behind l) w = longer_out limit es l w.1
 

@@ -1,0 +1,12 @@
+-- `word_across` meets its contract: the word at a place is said by the four bytes from there on, 0 past the end.
+-- Assumes nothing.
+use mathlib.Core.List.{◌++◌}
+use native.Mathlib.Omega.{arith}
+use borrow.Author.Rules.{rules}
+use Rattle.journal_entry.proofs.Joined.{word_bytes}
+use Rattle.journal_entry.proofs.word_across.Goals as goal
+
+pub returns : goal.returns
+returns c =
+    let x = c.args in
+    omega (arith, c.word_of.ensures, word_bytes (x.a.now ++ x.b.now) x.i)
