@@ -6,6 +6,7 @@ use native.Mathlib.Nat.{le_of_eq}
 use native.Mathlib.Omega.{arith}
 use lib.ListN.{length, take, drop, length-append, length-take, length-drop, take-append-drop, drop_of_length-le}
 use lib.Seq.{take_at, take_all, take-append-le, take-append-add, drop-append-le, drop-append-add, drop-drop}
+use borrow.Rule.Slice.PartMut.{put_mid}
 use Rattle.words.proofs.Slices.{tail}
 use Rattle.words.specs.Lists.{splice}
 
@@ -108,6 +109,13 @@ module _ (d src : List ℕ) (to from n : ℕ) (reads : from + n ≤ length src) 
       ap₂ drop (ap length lent_is) (tail to d) ∙ drop-drop (length (run src from n)) to d in
       ap₂ (λ (p q : List ℕ). take to d ++ (p ++ q)) (e ∙ ap₂ ◌++◌ (whole ∙ lent_is) rest) none
       ∙ ap (λ (l : List ℕ). take to d ++ l) (append-nil (run src from n ++ drop (to + length (run src from n)) d))
+
+-- a write to the part of d that starts at `at` and is as long as what it holds then
+pub put_mid_splice : (d ys zs : List ℕ) (at k : ℕ) → ys ≡ zs → length zs ≡ k → put_mid at k d ys ≡ splice d at zs
+unfolding splice
+put_mid_splice d ys zs at k e n =
+    ap₂ (λ (p q : List ℕ). take at d ++ (p ++ q)) e
+    (drop-drop k at d ∙ ap (λ (m : ℕ). drop (at + m) d) (sym n))
 
 -- what is left of two lists joined, from a place in the first or in the second
 module _ (a b : List ℕ) (at : ℕ) where
