@@ -22,14 +22,14 @@ use disk_layout::blocks_in_range;
 use journal_image::{BlocksAnswer, Damage};
 use refusals::Refusal;
 
-#[derive(Drop)]
+#[derive(Clone, Copy)]
 pub enum Formatted {
     Done,
     // 1 or 18
     Refused(Refusal),
 }
 
-#[derive(Drop)]
+#[derive(Clone, Copy)]
 pub enum Stored {
     // the next store was made
     Made,

@@ -44,7 +44,7 @@ pub(crate) fn is_superblock(block: &[u8], start: u32, len: u32) -> bool
     ensures { result ≡ same_bytes block.now (superblock start len) }
 {
     let fields = super_fields(start, len);
-    if block[32..46] != fields {
+    if block[32..46] != fields[0..14] {
         return false;
     }
     if !words::all_zero(&block[46..4096]) {

@@ -30,32 +30,32 @@ pub struct Location {
 }
 
 // A part of an interval, if it has any blocks.
-#[derive(Drop)]
+#[derive(Clone, Copy)]
 pub enum PartAnswer {
     Part(JournalInterval),
     Absent,
     Refused(Refusal),
 }
 
-#[derive(Drop)]
+#[derive(Clone, Copy)]
 pub enum IntervalAnswer {
     Interval(JournalInterval),
     Refused(Refusal),
 }
 
-#[derive(Drop)]
+#[derive(Clone, Copy)]
 pub enum LocationAnswer {
     At(Location),
     Refused(Refusal),
 }
 
-#[derive(Drop)]
+#[derive(Clone, Copy)]
 pub enum NumberAnswer {
     Number(u64),
     Refused(Refusal),
 }
 
-#[derive(Drop)]
+#[derive(Clone, Copy)]
 pub enum TestAnswer {
     Is(bool),
     Refused(Refusal),

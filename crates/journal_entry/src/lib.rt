@@ -16,14 +16,14 @@ pub const TO_LIMIT: usize = 512;
 // What the first length has more in a clone.
 pub const CLONE_MARK: u32 = 4096;
 
-#[derive(Drop)]
+#[derive(Clone, Copy)]
 pub enum Kind {
     Insert,
     Clone,
 }
 
 // Where an entry's two pieces lie, and the place behind it.
-#[derive(Drop)]
+#[derive(Clone, Copy)]
 pub struct EntryPlace {
     pub kind: Kind,
     pub first_at: usize,
@@ -33,21 +33,21 @@ pub struct EntryPlace {
     pub next: usize,
 }
 
-#[derive(Drop)]
+#[derive(Clone, Copy)]
 pub enum EntryRead {
     Read(EntryPlace),
     Unreadable,
 }
 
 // The place behind the last of the entries read.
-#[derive(Drop)]
+#[derive(Clone, Copy)]
 pub enum Walk {
     End(usize),
     Unreadable,
 }
 
 // The same, with the clones among them.
-#[derive(Drop)]
+#[derive(Clone, Copy)]
 pub enum Counted {
     Behind { place: usize, clones: usize },
     Unreadable,

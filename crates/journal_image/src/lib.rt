@@ -11,14 +11,14 @@ ghost use Rattle.journal_image.specs.Strip.{strip_call, stripped_output, blocks_
 use refusals::Refusal;
 
 // The lowest block, counted from 0, whose checksum differs, if there is one.
-#[derive(Drop)]
+#[derive(Clone, Copy)]
 pub enum Damage {
     Nowhere,
     Block(usize),
 }
 
 // The answer of a call about so many blocks: those that strip writes, that a card finds or releases.
-#[derive(Drop)]
+#[derive(Clone, Copy)]
 pub enum BlocksAnswer {
     // so many
     Blocks(usize),
@@ -36,7 +36,7 @@ pub fn block_agrees(block: &[u8]) -> bool
         return false;
     }
     let sum = crc32c::checksum(&block[32..]);
-    block[0..32] == sum
+    block[0..32] == sum[0..32]
 }
 
 // The lowest damaged one of so many blocks, or their number where none is.

@@ -10,7 +10,7 @@ ghost use Rattle.journal_ring.specs.Put.{put_entry};
 
 use journal_entry::Kind;
 
-#[derive(Drop)]
+#[derive(Clone, Copy)]
 pub enum Put {
     Done,
     NotTaken,

@@ -26,7 +26,7 @@ pub const LAYOUT: u64 = 3;
 pub const WORDS: usize = 21;
 
 // What words say: no record, or a record whose counts may still not hang together.
-#[derive(Drop)]
+#[derive(Clone, Copy)]
 pub enum Decoded {
     Damaged,
     Of(Journalist),

@@ -13,7 +13,7 @@ use refusals::Refusal;
 pub mod lent;
 
 // What is left of the replay: from a place of the replay buffer on, so many bytes, which are so many entries.
-#[derive(Drop)]
+#[derive(Clone, Copy)]
 pub struct Replay {
     pub place: usize,
     pub bytes: usize,
@@ -22,7 +22,7 @@ pub struct Replay {
 
 // The entry at the replay's place: its kind, its two lengths, and their bytes' places from the replay buffer's
 // start on.
-#[derive(Drop)]
+#[derive(Clone, Copy)]
 pub struct Top {
     pub kind: Kind,
     pub first_at: usize,
@@ -31,21 +31,21 @@ pub struct Top {
     pub second_len: usize,
 }
 
-#[derive(Drop)]
+#[derive(Clone, Copy)]
 pub enum TopRead {
     Read(Top),
     Refused(Refusal),
 }
 
 // Where the top entry's pieces lie, and the place behind it.
-#[derive(Drop)]
+#[derive(Clone, Copy)]
 enum PlaceRead {
     Read(EntryPlace),
     Refused(Refusal),
 }
 
 // The cursor behind the top entry.
-#[derive(Drop)]
+#[derive(Clone, Copy)]
 pub enum Popped {
     Done(Replay),
     Refused(Refusal),

@@ -1,0 +1,16 @@
+-- `crc32c::with_bytes` meets its contract. The invariant: the register with the bytes that are left is the register
+-- with all. Assumes nothing.
+use mathlib.Core.Path.{◌≡◌, ◌∙◌, sym}
+use mathlib.Core.List.{foldl}
+use Prim.Native.Nat.{◌≤◌, ◌-◌}
+use lib.ListN.{length, drop}
+use borrow.Author.Rules.{rules}
+use Rattle.crc32c_register.specs.Register.{step_byte}
+use Rattle.crc32c.proofs.Lanes.{from_next, from_end}
+use Rattle.crc32c.proofs.with_bytes.Given as goal
+
+abbrev pub invariant-loop-i : goal.invariant-loop-i
+invariant-loop-i l = (l.i ≤ length l.s) × (foldl step_byte l.r (drop l.i l.s) ≡ foldl step_byte l.register l.s)
+
+abbrev pub decreases-loop-i : goal.decreases-loop-i
+decreases-loop-i l = length l.s - l.i

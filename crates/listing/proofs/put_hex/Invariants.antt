@@ -1,0 +1,15 @@
+-- `put_hex` meets its contract: each turn puts the next byte's two digits. Assumes nothing.
+use Prim.Native.Nat.{◌-◌, ◌+◌}
+use native.Mathlib.Omega.{arith}
+use borrow.Author.Rules.{rules}
+use lib.ListN.{length, drop, get_or}
+use Rattle.listing.specs.Text.{hex_byte, hex_bytes}
+use Rattle.listing.proofs.Putting.{Putting, putting_none, putting_more, putting_end, part_fits}
+use Rattle.listing.proofs.TextLaws.{hex_more, hex_end}
+use Rattle.listing.proofs.put_hex.Given as goal
+
+abbrev pub invariant-loop-i : goal.invariant-loop-i
+invariant-loop-i l = Putting l.initial.text l.at (hex_bytes l.bytes) l.text l.to (hex_bytes (drop l.i l.bytes))
+
+abbrev pub decreases-loop-i : goal.decreases-loop-i
+decreases-loop-i l = length l.bytes - l.i
