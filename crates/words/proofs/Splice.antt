@@ -1,5 +1,5 @@
 -- One run put behind the other is their join put once; a run of two lists joined. Assumes nothing.
-use mathlib.Core.Path.{◌≡◌, sym, ap, ap₂, ◌∙◌}
+use mathlib.Core.Path.{◌≡◌, refl, sym, ap, ap₂, ◌∙◌}
 use mathlib.Core.List.{List, [], ◌++◌, append_assoc, append-nil}
 use Prim.Native.Nat.{ℕ, ◌+◌, ◌-◌, ◌≤◌}
 use native.Mathlib.Nat.{le_of_eq}
@@ -116,6 +116,11 @@ unfolding splice
 put_mid_splice d ys zs at k e n =
     ap₂ (λ (p q : List ℕ). take at d ++ (p ++ q)) e
     (drop-drop k at d ∙ ap (λ (m : ℕ). drop (at + m) d) (sym n))
+
+-- a write to the front of d
+pub put_mid_front : (d s ys : List ℕ) (k : ℕ) → ys ≡ s → length s ≡ k
+    → put_mid 0 k d ys ≡ take (length s) s ++ drop (length s) d
+put_mid_front d s ys k e n = ap₂ ◌++◌ (e ∙ sym (take_all (length s) s (le_of_eq refl))) (ap (λ (m : ℕ). drop m d) (sym n))
 
 -- what is left of two lists joined, from a place in the first or in the second
 module _ (a b : List ℕ) (at : ℕ) where

@@ -1,0 +1,67 @@
+-- The two words in front are the header; each test of it that fails leaves no batch, and where all hold the walk
+-- over the entries decides. Assumes nothing.
+use borrow.Author.Rules.{rules}
+use mathlib.Core.Path.{◌≡◌, sym, ap, ap₂, ◌∙◌}
+use mathlib.Core.List.{List, ◌++◌}
+use Prim.Native.Nat.{ℕ, ◌+◌, ◌*◌, ◌/◌}
+use native.Mathlib.Omega.{arith}
+use lib.ListN.{length}
+use Rattle.journal_entry.specs.declared.Walk.TheVariants.{End}
+use Rattle.journal_entry.specs.Places.{word_at, entries_end}
+use Rattle.journal_range.proofs.Batches.{Headed, long, walk_answer, answer_none, batch_walked, walk_behind}
+use Rattle.image_range.specs.InPlace.{image_payload}
+use Rattle.image_range.proofs.Places.{length_joined}
+use Rattle.image_range.proofs.batch_in.Goals as goal
+use Rattle.image_range.proofs.batch_in.Goals.{After-entries_in-walk, Start}
+
+abbrev payload : Start → List ℕ
+payload c = image_payload (c.args.a.now ++ c.args.b.now)
+
+long-payload : (c : Start) → length (payload c)
+    ≡ 4064 * ((length c.args.a.now + length c.args.b.now) / 4096)
+long-payload c = length_joined c.args.a.now c.args.b.now
+
+headed : (c : After-entries_in-walk) → Headed (image_payload (c.args.a.now ++ c.args.b.now))
+headed c = omega (arith, (length_joined c.args.a.now c.args.b.now), c.word_at-blocks.ensures)
+
+-- what the walk answered, at the words as they stand in the payload
+walked : (c : After-entries_in-walk)
+    → c.entries_in-walk.result ≡ entries_end (image_payload (c.args.a.now ++ c.args.b.now)) 8 (long (image_payload (c.args.a.now ++ c.args.b.now))) (word_at (image_payload (c.args.a.now ++ c.args.b.now)) 0)
+walked c =
+    c.entries_in-walk.ensures
+    ∙ ap₂ (λ (m n : ℕ). entries_end (image_payload (c.args.a.now ++ c.args.b.now)) 8 (4064 * m) n) c.word_at-blocks.ensures
+    c.word_at-count.ensures
+
+pub returns-then-len-lt8 : goal.returns-then-len-lt8
+returns-then-len-lt8 c =
+    answer_none (payload (goal.at.returns-then-len-lt8 c).Start) (λ h. omega (arith, long-payload (goal.at.returns-then-len-lt8 c).Start))
+
+pub returns-then-blocks-lt1 : goal.returns-then-blocks-lt1
+returns-then-blocks-lt1 c =
+    answer_none (payload (goal.at.returns-then-blocks-lt1 c).Start) (λ h. omega (arith, long-payload (goal.at.returns-then-blocks-lt1 c).Start, c.word_at-blocks.ensures))
+
+pub returns-then-len-end : goal.returns-then-len-end
+returns-then-len-end c =
+    answer_none (payload (goal.at.returns-then-len-end c).Start) (λ h. omega (arith, long-payload (goal.at.returns-then-len-end c).Start, c.word_at-blocks.ensures))
+
+pub overflow_sub-result : goal.overflow_sub-result
+overflow_sub-result c =
+    let s = payload (goal.at.overflow_sub-result c).Start in
+    omega (
+      arith,
+      walk_behind s (long s) (word_at s 0) c.in-End.here
+          (sym (walked (goal.at.overflow_sub-result c).After-entries_in-walk) ∙ c.in-End.is),
+    )
+
+pub returns-in-Unreadable : goal.returns-in-Unreadable
+returns-in-Unreadable c =
+    let s = payload (goal.at.returns-in-Unreadable c).Start in
+    sym (batch_walked s (headed (goal.at.returns-in-Unreadable c).After-entries_in-walk) ∙ ap (walk_answer (word_at s 0) (long s)) (sym (walked (goal.at.returns-in-Unreadable c).After-entries_in-walk) ∙ c.in-Unreadable.is))
+
+pub returns-in-End : goal.returns-in-End
+returns-in-End c =
+    let s = payload (goal.at.returns-in-End c).Start in
+    let here = c.in-End.here in
+    ap₂ (λ (m n : ℕ). walk_answer m (4064 * n) (End here)) c.word_at-count.ensures c.word_at-blocks.ensures
+    ∙ sym (batch_walked s (headed (goal.at.returns-in-End c).After-entries_in-walk)
+    ∙ ap (walk_answer (word_at s 0) (long s)) (sym (walked (goal.at.returns-in-End c).After-entries_in-walk) ∙ c.in-End.is))

@@ -1,0 +1,19 @@
+-- `entries_in` meets its contract: what is left to be read ends where all of it ends (`Passing`).
+-- Assumes nothing.
+use Prim.Native.Nat.{ℕ, ◌+◌, ◌*◌, ◌/◌}
+use mathlib.Core.List.{List, ◌++◌}
+use mathlib.Core.Path.{◌≡◌, sym, ◌∙◌}
+use native.Mathlib.Omega.{arith}
+use borrow.Author.Rules.{rules}
+use lib.ListN.{length}
+use Rattle.image_range.specs.InPlace.{image_payload}
+use Rattle.image_range.proofs.Places.{length_joined}
+use Rattle.image_range.proofs.Walks.{Passing, passed_back, passed_outside, passing_starts, passing_more}
+use Rattle.image_range.proofs.Walks.{passing_stops, passing_ends}
+use Rattle.image_range.proofs.entries_in.Given as goal
+
+abbrev pub invariant-loop-left : goal.invariant-loop-left
+invariant-loop-left l = Passing (image_payload (l.a ++ l.b)) l.at l.end l.count l.here l.left
+
+abbrev pub decreases-loop-left : goal.decreases-loop-left
+decreases-loop-left l = l.left

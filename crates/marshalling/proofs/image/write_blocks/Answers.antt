@@ -1,0 +1,44 @@
+-- `marshalling::image::write_blocks` meets its contract. The invariant: the first k blocks are written, the part
+-- behind them is as it was, and their bytes of the list took as many runs as were made. Assumes nothing.
+use mathlib.Core.Path.{◌≡◌, refl}
+use mathlib.Core.List.{◌++◌}
+use Prim.Native.Nat.{◌+◌, ◌-◌, ◌*◌, ◌≤◌}
+use native.Mathlib.Omega.{arith}
+use borrow.Author.Rules.{rules}
+use lib.ListN.{length, take, drop}
+use Rattle.marshalling.specs.Fill.{padded}
+use Rattle.marshalling.specs.Runs.{Takes}
+use Rattle.marshalling.specs.Marshall.{with_checksums}
+use Rattle.marshalling.proofs.Images.{image_to}
+use Rattle.marshalling.proofs.Writing.{image_more}
+use Rattle.marshalling.proofs.Runs.{takes_none, takes_then}
+use Rattle.marshalling.proofs.image.write_blocks.Goals as goal
+
+pub loop-k-init : goal.loop-k-init
+unfolding with_checksums
+loop-k-init c =
+    let a = c.args in
+    (omega arith, refl, omega arith, refl, takes_none a.a.now a.b.now a.at a.n 0)
+
+pub loop-k-preserved : goal.loop-k-preserved
+loop-k-preserved c =
+    let a = c.args in
+    let next : 4064 * (c.loop-k.k + 1) - 8 ≡ 4064 * c.loop-k.k + 4064 - 8 = omega arith in (
+      search rules,
+      search rules,
+      omega arith,
+      image_more (a.h.now ++ take a.n (drop a.at (a.a.now ++ a.b.now))) a.out.now c.loop-k.out
+          c.write_block-runs.new.out a.blocks c.loop-k.k (omega arith) c.loop-k.invariant.3
+          c.write_block-runs.ensures.out_new,
+      rw next
+          (takes_then a.a.now a.b.now a.at a.n _ _ _ _ _ c.loop-k.invariant.4
+          c.write_block-runs.ensures.takes),
+    )
+
+pub shape_of-out : goal.shape_of-out
+shape_of-out c = c.loop-k.invariant.1
+
+pub returns : goal.returns
+returns c =
+    let e : c.loop-k.k ≡ c.args.blocks = omega arith in
+    let all = rw e at c.loop-k.invariant in record { out_new = all.3; takes = all.4 }

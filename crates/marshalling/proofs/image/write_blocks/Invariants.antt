@@ -1,0 +1,23 @@
+-- `marshalling::image::write_blocks` meets its contract. The invariant: the first k blocks are written, the part
+-- behind them is as it was, and their bytes of the list took as many runs as were made. Assumes nothing.
+use mathlib.Core.Path.{◌≡◌, refl}
+use mathlib.Core.List.{◌++◌}
+use Prim.Native.Nat.{◌+◌, ◌-◌, ◌*◌, ◌≤◌}
+use native.Mathlib.Omega.{arith}
+use borrow.Author.Rules.{rules}
+use lib.ListN.{length, take, drop}
+use Rattle.marshalling.specs.Fill.{padded}
+use Rattle.marshalling.specs.Runs.{Takes}
+use Rattle.marshalling.specs.Marshall.{with_checksums}
+use Rattle.marshalling.proofs.Images.{image_to}
+use Rattle.marshalling.proofs.Writing.{image_more}
+use Rattle.marshalling.proofs.Runs.{takes_none, takes_then}
+use Rattle.marshalling.proofs.image.write_blocks.Given as goal
+
+abbrev pub invariant-loop-k : goal.invariant-loop-k
+invariant-loop-k l = (l.k ≤ l.blocks) × (length l.out ≡ length l.initial.out) × (l.runs ≤ 4064 * l.k)
+    × (l.out ≡ image_to (padded (4064 * l.blocks) (l.h ++ take l.n (drop l.at (l.a ++ l.b)))) l.k ++ drop (4096 * l.k) l.initial.out)
+    × Takes l.a l.b l.at l.n 0 (4064 * l.k - 8) l.runs
+
+abbrev pub decreases-loop-k : goal.decreases-loop-k
+decreases-loop-k l = l.blocks - l.k
