@@ -1,0 +1,9 @@
+-- `Journalist::last_freeze` meets its contract: each return is one case of `lastFreeze`. Assumes nothing.
+use borrow.Author.Tests.{eq-eqb, ne_eqb}
+use Rattle.journalist.proofs.Journalist.last_freeze.Goals as goal
+
+pub returns-then-self-eq0 : goal.returns-then-self-eq0
+returns-then-self-eq0 c = simp (eq-eqb _ _ c.if-self-eq0.true)
+
+pub returns : goal.returns
+returns c = simp (ne_eqb _ _ c.if-self-eq0.false, c.requires)
