@@ -180,8 +180,7 @@ module _ (n : ℕ) (card image : List ℕ) (made start len p : ℕ) (s : start �
   abbrev pub to : ℕ
   to = 8192 + 4096 * p
 
-  pub block_put : (y : List ℕ) → y
-      ≡ take (length lent) lent ++ drop (length lent) (take (to + 4096 - to) (drop to card))
+  pub block_put : (y : List ℕ) → y ≡ lent
       → take to card ++ (y ++ drop (to + 4096 - to) (drop to card)) ≡ with_block n card image made
   unfolding with_block splice
   block_put y e =
@@ -189,10 +188,7 @@ module _ (n : ℕ) (card image : List ℕ) (made start len p : ℕ) (s : start �
       let x = take 4096 (drop (4096 * made) image) in
       let lx : length x ≡ 4096 = length-take-le 4096 (drop (4096 * made) image) (rw length-drop (omega arith)) in
       let is_x : lent ≡ x = rw size in
-      let ll : length lent ≡ 4096 = ap length is_x ∙ lx in
-      let there : length (take (to + 4096 - to) (drop to card)) ≡ length lent =
-      rw ll (simp (length-take, length-drop) (omega arith)) in
-      let yx : y ≡ x = copied_whole lent (take (to + 4096 - to) (drop to card)) y there e ∙ is_x in
+      let yx : y ≡ x = e ∙ is_x in
       let at : journal_point (advance n (live_start card) (live_len card + made)) ≡ to =
       rw (← s, ← l, ← place) (omega arith) in
       let rest : to + (to + 4096 - to) ≡ to + length x = omega arith in

@@ -26,7 +26,7 @@ module _ (b : List ℕ) (start len : ℕ) (h : length b ≡ 4096) where
   zeroed y z = take 46 (fielded y) ++ (z ++ drop 4050 (drop 46 (fielded y)))
 
   pub superblock_written : (fields y z sum last : List ℕ) → fields ≡ super_fields start len
-      → y ≡ take (length fields) fields ++ drop (length fields) (take 14 (drop 32 b))
+      → y ≡ fields
       → z ≡ zeros (length (take 4050 (drop 46 (fielded y))))
       → sum ≡ checksum_bytes (take 4064 (drop 32 (zeroed y z)))
       → last ≡ take (length sum) sum ++ drop (length sum) (zeroed y z)
@@ -39,9 +39,7 @@ module _ (b : List ℕ) (start len : ℕ) (h : length b ≡ 4096) where
       let la : length a ≡ 32 = length-take-le 32 b (omega arith) in
       let lF : length F ≡ 14 = length_super_fields start len in
       let lf : length fields ≡ 14 = ap length ef ∙ lF in
-      let lp : length (take 14 (drop 32 b)) ≡ length fields =
-      rw lf (length-take-le 14 (drop 32 b) (rw length-drop (omega arith))) in
-      let yF : y ≡ F = copied_whole fields (take 14 (drop 32 b)) y lp ey ∙ ef in
+      let yF : y ≡ F = ey ∙ ef in
       let rest : drop 14 (drop 32 b) ≡ drop 46 b = drop-drop 14 32 b in
       let laF : length (a ++ F) ≡ 46 = rw (length-append, la, lF) in
       let b1 : fielded y ≡ (a ++ F) ++ drop 46 b = rw (yF, rest) (sym (append_assoc a F (drop 46 b))) in
@@ -92,7 +90,7 @@ module _ (b : List ℕ) (start len : ℕ) (h : length b ≡ 4096) where
   not_it : (b ≡ superblock start len → ⊥) → false ≡ same_bytes b (superblock start len)
   not_it other = sym (never (same_bytes b (superblock start len)) (λ t. other (same_equal b (superblock start len) t)))
 
-  -- `check::same` of the fields failed
+  -- the fields are others
   pub fields_differ : (r : Bool) (f : List ℕ) → f ≡ super_fields start len → (take 14 (drop 32 b) ≡ f → r ≡ true)
       → not r ≡ true
       → false ≡ same_bytes b (superblock start len)

@@ -38,8 +38,6 @@ rewrite-requires c = omega (arith, (is-formed (goal.at.rewrite-requires c).Start
 pub returns : goal.returns
 returns c =
     let s = c.args in
-    let start = c.live_start-start.ensures in
-    let len = c.live_len-len.ensures in
     c.rewrite.ensures
-    ∙ ap₂ (rewritten s.card.now) (c.block_on-next.ensures ∙ ap (λ (x : ℕ). advance s.n x s.dropped) start)
-    (ap (λ (x : ℕ). x - s.dropped) len)
+    ∙ ap₂ (rewritten s.card.now) (c.block_on-next.ensures ∙ ap (λ (x : ℕ). advance s.n x s.dropped) c.live_start-start.ensures)
+    (ap (λ (x : ℕ). x - s.dropped) c.live_len-len.ensures)

@@ -10,8 +10,8 @@ use borrow.Author.Rules.{rules}
 use Rattle.card.proofs.store_next.Goals as goal
 use Rattle.card.proofs.store_next.Goals.{After-block_on, Start}
 
-is-formed : (s : Start) → Formed s.args.n s.args.card.now
-is-formed s = formed_told s.args.n s.args.card.now s.requires.1
+is_formed : (s : Start) → Formed s.args.n s.args.card.now
+is_formed s = formed_told s.args.n s.args.card.now s.requires.1
 
 -- the block is one of the region's
 place_in : (c : After-block_on) → c.block_on.result < c.args.n
@@ -35,17 +35,25 @@ pub overflow_add-over : goal.overflow_add-over
 overflow_add-over c =
     omega (arith, place_in (goal.at.overflow_add-over c).After-block_on, c.requires)
 
+pub slice_bounds-copy_from_slice-end : goal.slice_bounds-copy_from_slice-end
+slice_bounds-copy_from_slice-end c =
+    omega (
+      arith,
+      place_in (goal.at.slice_bounds-copy_from_slice-end c).After-block_on,
+      (is_formed (goal.at.slice_bounds-copy_from_slice-end c).Start).size,
+    )
+
 pub returns-then-made-blocks : goal.returns-then-made-blocks
 returns-then-made-blocks c =
     let s = c.args in
     let h = c.if-made-blocks.true in
     by_block s.made (image_blocks s.image.now) _ _ _ h
     (block_put s.n s.card.now s.image.now s.made c.live_start-start.result c.live_len-len.result c.block_on.result
-    c.live_start-start.ensures c.live_len-len.ensures c.block_on.ensures (omega (arith, place_in (goal.at.returns-then-made-blocks c).After-block_on, (is-formed (goal.at.returns-then-made-blocks c).Start).size))
-    (omega arith) c.copy.new.1.0 c.copy.ensures.1)
+    c.live_start-start.ensures c.live_len-len.ensures c.block_on.ensures (omega (arith, place_in (goal.at.returns-then-made-blocks c).After-block_on, (is_formed (goal.at.returns-then-made-blocks c).Start).size))
+    (omega arith) c.copy_from_slice.new.self c.copy_from_slice.ensures.after)
 
 pub rewrite-requires : goal.rewrite-requires
-rewrite-requires c = omega (arith, (is-formed (goal.at.rewrite-requires c).Start).size)
+rewrite-requires c = omega (arith, (is_formed (goal.at.rewrite-requires c).Start).size)
 
 pub returns : goal.returns
 returns c =
