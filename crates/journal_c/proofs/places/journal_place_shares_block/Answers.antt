@@ -1,0 +1,13 @@
+-- `journal_c::places::journal_place_shares_block` meets its contract: disk_layout's answer, in words.
+-- Assumes nothing.
+use Rattle.refusals.specs.Outcome.{into}
+use Rattle.journal_c.specs.Numbers.{test_words}
+use Rattle.journal_c.proofs.Answering.{also}
+use borrow.Author.Rules.{rules}
+use Rattle.journal_c.proofs.places.journal_place_shares_block.Goals as goal
+
+pub returns : goal.returns
+returns c =
+    let told = also (into test_words) _ _ c.args.answer.now _ _
+    c.shares_block-told.ensures
+    c.answer_test.ensures in record { value = told.0; answer_new = told.1 }

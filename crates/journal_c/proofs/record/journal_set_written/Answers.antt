@@ -1,0 +1,15 @@
+-- `journal_c::journal_set_written` meets its contract: the journalist's, on the record that the words say.
+-- Assumes nothing.
+use Rattle.record_words.proofs.OnRecord.{damaged, changed}
+use borrow.Author.Rules.{rules}
+use Rattle.journal_c.proofs.record.journal_set_written.Goals as goal
+
+pub returns-in-Damaged : goal.returns-in-Damaged
+returns-in-Damaged c =
+    let told = damaged c.args.words.now _ c.decode.ensures _ _ c.in-Damaged.is c.number.ensures in record { value = told.0; words_new = told.1 }
+
+pub returns-in-Of : goal.returns-in-Of
+returns-in-Of c =
+    let told = changed c.args.words.now _ c.decode.ensures _ _ c.set_written_journal_len.result _ _
+    c.in-Of.is c.set_written_journal_len.ensures
+    c.put.ensures in record { value = told.0; words_new = told.1 }

@@ -1,0 +1,16 @@
+-- `journal_c::journal_load` meets its contract: the journalist's, on the record that the words say.
+-- Assumes nothing.
+use Rattle.record_words.proofs.OnRecord.{damaged_lent, changed_lent}
+use borrow.Author.Rules.{rules}
+use Rattle.journal_c.proofs.recovery.journal_load.Goals as goal
+
+pub returns-in-Damaged : goal.returns-in-Damaged
+returns-in-Damaged c =
+    let told = damaged_lent c.args.words.now _ c.decode.ensures _ c.args.replay.now _ _
+    c.in-Damaged.is c.number.ensures in record { value = told.0; words_new = told.1.0; replay_new = told.1.1 }
+
+pub returns-in-Of : goal.returns-in-Of
+returns-in-Of c =
+    let told = changed_lent c.args.words.now _ c.decode.ensures _ c.args.replay.now _ _
+    c.parse_journals.result _ _ _ c.in-Of.is
+    c.parse_journals.ensures.result_value c.parse_journals.ensures.replay_new c.put.ensures in record { value = told.0; words_new = told.1.0; replay_new = told.1.1 }
