@@ -1,6 +1,7 @@
 -- `journal_c::journal_checksum` meets its contract: the two laws of `checksumCall`, by whether there is room.
 -- Assumes nothing.
 use borrow.Author.Rules.{rules}
+use Rattle.words.proofs.Splice.{put_mid_front}
 use Rattle.journal_c.proofs.Heads.{no_room, room}
 use Rattle.journal_c.proofs.journal_checksum.Goals as goal
 
@@ -13,4 +14,4 @@ returns c =
     let told = room c.args.s.now c.args.out.now c.checksum-head.result _
     c.if-out-lt32.false
     c.checksum-head.ensures
-    c.copy.ensures.1 in record { value = told.0; out_new = told.1 }
+    (put_mid_front c.args.out.now c.checksum-head.result _ 32 c.copy_from_slice.ensures.after (search rules)) in record { value = told.0; out_new = told.1 }

@@ -11,13 +11,13 @@ pub overflow_mul-result : goal.overflow_mul-result
 overflow_mul-result c =
     let below = named_below c.args.image.now c.args.out.now _ _
     (answer_told c.strip-stripped.ensures.result_value c.in-ChecksumDiffers.is) in
-    record { fits = omega (arith, c.well-formed) }
+    record { fits = omega (arith, c.well_formed) }
 
 pub overflow_add-result : goal.overflow_add-result
 overflow_add-result c =
     let below = named_below c.args.image.now c.args.out.now _ _
     (answer_told c.strip-stripped.ensures.result_value c.in-ChecksumDiffers.is) in
-    record { fits = omega (arith, c.well-formed) }
+    record { fits = omega (arith, c.well_formed) }
 
 pub returns-in-Blocks : goal.returns-in-Blocks
 returns-in-Blocks c =

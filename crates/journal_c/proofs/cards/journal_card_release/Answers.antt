@@ -22,7 +22,7 @@ returns-then-answer-lt1 c =
     let s = c.args in
     let call = release_call s.n s.card.now in
     let h = also (into number_words) _ call s.answer.now _ _ c.release_test.ensures
-    c.answer_blocks.ensures in record {
+    (c.answer_blocks.ensures.value, c.answer_blocks.ensures.answer_new) in record {
       value = h.0;
       card_new = short_kept number_words (λ a. refl) call s.answer.now (released s.n s.card.now) s.card.now
             c.if-answer-lt1.true;
@@ -40,7 +40,7 @@ returns c =
     let s = c.args in
     let call = release_call s.n s.card.now in
     let h = also (into number_words) _ call s.answer.now _ _ c.release.ensures.result_value
-    c.answer_blocks-2.ensures in record {
+    (c.answer_blocks-2.ensures.value, c.answer_blocks-2.ensures.answer_new) in record {
       value = h.0;
       card_new = c.release.ensures.card_new
             ∙ long_changed number_words (λ a. refl) call s.answer.now _ s.card.now

@@ -16,7 +16,7 @@ use Rattle.journal_c.proofs.cards.journal_card_store.Goals as goal
 pub answer_stored-requires : goal.answer_stored-requires
 answer_stored-requires c =
     let s = c.args in
-    named_small _ (length s.image.now / 4096) (omega (arith, c.well-formed)) λ number block e.
+    named_small _ (length s.image.now / 4096) (omega (arith, c.well_formed)) λ number block e.
     store_below s.n s.card.now s.image.now s.made number block (sym c.store_test.ensures ∙ e)
 
 pub returns-then-answer-lt1 : goal.returns-then-answer-lt1
@@ -24,7 +24,7 @@ returns-then-answer-lt1 c =
     let s = c.args in
     let call = store_call s.n s.card.now s.image.now s.made in
     let h = also (into test_words) _ call s.answer.now _ _ c.store_test.ensures
-    c.answer_stored.ensures in record {
+    (c.answer_stored.ensures.value, c.answer_stored.ensures.answer_new) in record {
       value = h.0;
       card_new = short_kept test_words (λ a. refl) call s.answer.now
             (stored s.n s.card.now s.image.now s.made) s.card.now
@@ -35,7 +35,7 @@ returns-then-answer-lt1 c =
 pub answer_stored-requires-2 : goal.answer_stored-requires-2
 answer_stored-requires-2 c =
     let s = c.args in
-    named_small _ (length s.image.now / 4096) (omega (arith, c.well-formed)) λ number block e.
+    named_small _ (length s.image.now / 4096) (omega (arith, c.well_formed)) λ number block e.
     store_below s.n s.card.now s.image.now s.made number block (sym c.store.ensures.result_value ∙ e)
 
 pub returns : goal.returns
@@ -43,7 +43,7 @@ returns c =
     let s = c.args in
     let call = store_call s.n s.card.now s.image.now s.made in
     let h = also (into test_words) _ call s.answer.now _ _ c.store.ensures.result_value
-    c.answer_stored-2.ensures in record {
+    (c.answer_stored-2.ensures.value, c.answer_stored-2.ensures.answer_new) in record {
       value = h.0;
       card_new = c.store.ensures.card_new
             ∙ long_changed test_words (λ a. refl) call s.answer.now _ s.card.now

@@ -13,7 +13,7 @@ pub returns-in-Is : goal.returns-in-Is
 returns-in-Is c =
     let a = c.args in let told = tested (test_outcome a.told) _ a.answer.now _ _
     (ap test_outcome c.in-Is.is)
-    c.answer_one.ensures in record { value = told.0; answer_new = told.1 }
+    (c.answer_one.ensures.value, c.answer_one.ensures.answer_new) in record { value = told.0; answer_new = told.1 }
 
 pub returns-in-Refused : goal.returns-in-Refused
 returns-in-Refused c =

@@ -10,4 +10,4 @@ pub returns : goal.returns
 returns c =
     let told = also (into test_words) _ _ c.args.answer.now _ _
     c.journal_cyclic_interval_overlap-told.ensures
-    c.answer_test.ensures in record { value = told.0; answer_new = told.1 }
+    (c.answer_test.ensures.value, c.answer_test.ensures.answer_new) in record { value = told.0; answer_new = told.1 }

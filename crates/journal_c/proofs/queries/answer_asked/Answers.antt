@@ -19,4 +19,4 @@ pub returns-in-Is : goal.returns-in-Is
 returns-in-Is c =
     let a = c.args in let told = tested (asked_outcome a.asked) _ a.answer.now _ _
     (ap asked_outcome c.in-Is.is)
-    c.answer_one.ensures in record { value = told.0; answer_new = told.1 }
+    (c.answer_one.ensures.value, c.answer_one.ensures.answer_new) in record { value = told.0; answer_new = told.1 }

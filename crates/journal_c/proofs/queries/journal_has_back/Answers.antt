@@ -14,4 +14,4 @@ pub returns-in-Of : goal.returns-in-Of
 returns-in-Of c =
     let told = found c.args.words.now _ c.decode.ensures test_words _ c.args.answer.now _ _ _ _
     c.in-Of.is c.has_back.ensures
-    c.answer_asked.ensures in record { value = told.0; answer_new = told.1 }
+    (c.answer_asked.ensures.value, c.answer_asked.ensures.answer_new) in record { value = told.0; answer_new = told.1 }

@@ -14,4 +14,4 @@ pub returns-in-Of : goal.returns-in-Of
 returns-in-Of c =
     let told = found c.args.words.now _ c.decode.ensures top_words _ c.args.top.now _ _ _ _
     c.in-Of.is c.replay_journal_top.ensures
-    c.answer_top.ensures in record { value = told.0; top_new = told.1 }
+    (c.answer_top.ensures.value, c.answer_top.ensures.top_new) in record { value = told.0; top_new = told.1 }

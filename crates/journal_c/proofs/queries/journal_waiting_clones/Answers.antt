@@ -14,4 +14,4 @@ pub returns-in-Of : goal.returns-in-Of
 returns-in-Of c =
     let told = found c.args.words.now _ c.decode.ensures number_words _ c.args.answer.now _ _ _ _
     c.in-Of.is c.waiting_clones.ensures
-    c.answer_count.ensures in record { value = told.0; answer_new = told.1 }
+    (c.answer_count.ensures.value, c.answer_count.ensures.answer_new) in record { value = told.0; answer_new = told.1 }

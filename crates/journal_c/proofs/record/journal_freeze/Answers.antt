@@ -12,4 +12,4 @@ pub returns-in-Of : goal.returns-in-Of
 returns-in-Of c =
     let told = changed c.args.words.now _ c.decode.ensures _ _ c.freeze.result _ _
     c.in-Of.is c.freeze.ensures
-    c.put.ensures in record { value = told.0; words_new = told.1 }
+    (c.put.ensures.value, c.put.ensures.words_new) in record { value = told.0; words_new = told.1 }

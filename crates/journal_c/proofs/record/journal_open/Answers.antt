@@ -8,4 +8,4 @@ pub returns : goal.returns
 returns c =
     let told = put_as c.args.words.now _
     c.«open».result _ _ c.«open».ensures
-    c.put.ensures in record { value = told.0; words_new = told.1 }
+    (c.put.ensures.value, c.put.ensures.words_new) in record { value = told.0; words_new = told.1 }

@@ -13,4 +13,4 @@ returns-in-Of c =
     let told = changed c.args.words.now _ c.decode.ensures _ _
     c.update_written_journal_len.result _ _ c.in-Of.is
     c.update_written_journal_len.ensures
-    c.put.ensures in record { value = told.0; words_new = told.1 }
+    (c.put.ensures.value, c.put.ensures.words_new) in record { value = told.0; words_new = told.1 }
