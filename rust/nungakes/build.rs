@@ -22,13 +22,13 @@ fn archive(root: &Path) -> PathBuf {
     }
     if set.is_some() {
         stop(&format!(
-            "{VARIABLE} is {}, which is not a file libjournal_c.a: `rt staticlib journal_c` in the \
-             repository's root writes it to target/staticlib",
+            "{VARIABLE} is {}, which is not a file libjournal_c.a: `tools/archive journal_c` writes it to \
+             target/staticlib in the repository",
             path.display()
         ));
     }
     stop(&format!(
-        "there is no archive yet: run `rt staticlib journal_c` in the repository's root, or set \
+        "there is no archive yet: run `tools/archive journal_c` in the repository, or set \
          {VARIABLE} to the path of a libjournal_c.a"
     ))
 }

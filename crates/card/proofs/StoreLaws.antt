@@ -7,7 +7,7 @@ use Prim.Native.Nat.{ℕ, ◌+◌, ◌-◌, ◌*◌, ◌%◌, ◌≤◌, ◌<◌
 use native.Mathlib.Omega.{arith}
 use borrow.Author.Tests.{le-leb, lt-leb, lt-ltb, le-ltb, eq-eqb, ne_eqb, eqb-true, leb-true, not-true, not-false}
 use lib.Dec.{ltb}
-use lib.ListN.{length, take, drop, length-take, length-drop}
+use lib.ListN.{length, take, drop, length-drop}
 use lib.Seq.{length-take-le, drop-drop}
 use Rattle.refusals.specs.Outcome.{Outcome, gives, refuses, refuses_block}
 use Rattle.refusals.proofs.Tests.{impossible}
@@ -20,7 +20,6 @@ use Rattle.journal_range.specs.Payload.{parse_payload, range_of}
 use Rattle.journal_image.specs.Image.{lowest_damaged}
 use Rattle.journal_image.proofs.Damaged.{lowest_told}
 use Rattle.journal_ring.specs.Ring.{advance}
-use Rattle.journal_ring.proofs.Runs.{copied_whole}
 use Rattle.image_range.specs.InPlace.{image_payload, is_read}
 use Rattle.image_range.proofs.Ranges.{image_range}
 use Rattle.card.specs.Card.{live_start, live_len, formed}

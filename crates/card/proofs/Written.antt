@@ -2,7 +2,7 @@
 use mathlib.Core.Path.{◌≡◌, sym, ap, ap₂, ◌∙◌}
 use mathlib.Core.Bool.{Bool, true, false, not}
 use mathlib.Core.List.{List, [], ◌++◌, append_assoc, append-nil}
-use Prim.Native.Nat.{ℕ, ◌+◌}
+use Prim.Native.Nat.{ℕ}
 use native.Mathlib.Omega.{arith}
 use borrow.Author.Tests.{not-true, not-false}
 use lib.ListN.{length, take, drop, length-append, length-drop, take-append-drop, drop_of_length-le}
@@ -12,7 +12,6 @@ use Rattle.crc32c.specs.Crc32c.{checksum_bytes}
 use Rattle.crc32c.proofs.Range.{length_checksum_bytes}
 use Rattle.journal_image.specs.Image.{same_bytes, checksum_checks_out}
 use Rattle.journal_image.proofs.Same.{same_equal, same_refl}
-use Rattle.journal_ring.proofs.Runs.{copied_whole}
 use Rattle.card.specs.Superblock.{zeros, super_fields, super_payload, superblock}
 use Rattle.card.proofs.Superblock.{length_super_fields, length_super_payload}
 

@@ -2,13 +2,13 @@
 -- as far on: so words can be taken in turn by registers that do not wait for each other. Assumes nothing.
 use mathlib.Core.Path.{◌≡◌, refl, sym, ap, ap₂, ◌∙◌}
 use mathlib.Core.List.{List, [], ◌∷◌, ◌++◌, foldl, foldl-append}
-use Prim.Native.Nat.{ℕ, zero, suc, ◌+◌, ◌-◌, ◌*◌, ◌/◌, ◌%◌, ◌≤◌, ◌<◌}
+use Prim.Native.Nat.{ℕ, zero, suc, ◌+◌, ◌*◌, ◌/◌, ◌%◌, ◌≤◌, ◌<◌}
 use native.Mathlib.Omega.{arith}
 use lib.Bits.{bit_xor, xor_comm, xor_zero_r}
 use lib.ListN.{length, take, drop, get_or, replicate, take-append-drop, length-drop, drop_of_length-le}
 use lib.Seq.{drop-cons, drop-drop, length-take-le, take_all}
 use Rattle.crc32c_register.specs.Register.{step_bits, step_byte}
-use Rattle.crc32c_register.proofs.Xor.{xor_assoc, xor_cross}
+use Rattle.crc32c_register.proofs.Xor.{xor_assoc}
 use Rattle.crc32c_register.proofs.Steps.{step_bits_xor, step_bits_add, step_bits_later}
 use Rattle.words.specs.Words.{unpack}
 use Rattle.words.proofs.Slices.{Bytes, bytes_take, bytes_drop, four}

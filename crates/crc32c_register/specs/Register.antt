@@ -1,6 +1,6 @@
 -- The register of CRC-32C, bit by bit: RFC 3720, section 12.1. The Castagnoli polynomial 0x1EDC6F41, the lowest bit
 -- first. Assumes nothing.
-use Rattle.std.specs.Prelude.{List, ℕ, zero, suc, ◌*◌, ◌/◌, ◌%◌}
+use Rattle.std.specs.Prelude.{ℕ, zero, suc, ◌*◌, ◌/◌, ◌%◌}
 use Rattle.std.specs.Int.Bits.{bit_xor}
 
 -- 0x1EDC6F41 with its 32 bits in reverse order

@@ -3,7 +3,7 @@
 //!
 //! Every call is proved to meet its contract on all inputs: it ends inside the lent memory and gives its result or one
 //! [`Refusal`], and a refused call changes nothing. This crate is the Rust side of the archive that
-//! `rt staticlib journal_c` writes; README.md has the whole, c/journal.h the same calls for C. The build script takes
+//! `tools/archive journal_c` writes; README.md has the whole, c/journal.h the same calls for C. The build script takes
 //! target/staticlib/libjournal_c.a of the repository, or the one that `NUNGAKES_ARCHIVE` names.
 //!
 //! ```

@@ -1,6 +1,5 @@
 -- `card::block_on` meets its contract: the test is the definition's. Assumes nothing.
 use mathlib.Core.Path.{sym}
-use borrow.Author.Rules.{rules}
 use Rattle.journal_ring.proofs.Rotation.{advance_near, advance_far}
 use Rattle.card.proofs.block_on.Goals as goal
 

@@ -6,7 +6,6 @@ use Rattle.journal_ring.specs.Ring.{advance}
 use Rattle.journal_ring.proofs.Rotation.{advance_lt}
 use Rattle.card.specs.Calls.{rewritten}
 use Rattle.card.proofs.Formed.{Formed, formed_told}
-use borrow.Author.Rules.{rules}
 use Rattle.card.proofs.drop_front.Goals as goal
 use Rattle.card.proofs.drop_front.Goals.{After-block_on-next, Start}
 

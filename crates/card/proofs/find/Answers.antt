@@ -4,7 +4,6 @@ use Rattle.journal_image.specs.Strip.{blocks_outcome}
 use Rattle.journal_image.specs.declared.BlocksAnswer.{BlocksAnswer}
 use Rattle.card.specs.Calls.{find_call}
 use Rattle.card.proofs.CallLaws.{find_told, find_refused, find_named, find_given}
-use borrow.Author.Rules.{rules}
 use Rattle.card.proofs.find.Goals as goal
 use Rattle.card.proofs.find.Goals.{After-find_test-tested}
 

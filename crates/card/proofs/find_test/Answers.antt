@@ -7,7 +7,6 @@ use Rattle.disk_layout.specs.DiskLayout.{blocks_in_range}
 use Rattle.disk_layout.proofs.Intervals.{range_facts}
 use Rattle.journal_image.proofs.Damaged.{damage_some, damage_none}
 use Rattle.card.proofs.CallLaws.{find_1, find_18, find_9, find_12, find_blocks}
-use borrow.Author.Rules.{rules}
 use Rattle.card.proofs.find_test.Goals as goal
 use Rattle.card.proofs.find_test.Goals.{After-is_formed}
 
@@ -36,11 +35,10 @@ returns-then-room-blocks c =
     (omega (arith, c.live_len-blocks.ensures, c.if-room-blocks.true))
 
 pub live_damage-damage-requires : goal.live_damage-damage-requires
-live_damage-damage-requires c =
-    (
-      (range_facts c.args.n (ranged (goal.at.live_damage-damage-requires c).After-is_formed)).1,
-      passed c.is_formed.ensures c.if-not-is_formed.false-raw,
-    )
+live_damage-damage-requires c = (
+  (range_facts c.args.n (ranged (goal.at.live_damage-damage-requires c).After-is_formed)).1,
+  passed c.is_formed.ensures c.if-not-is_formed.false-raw,
+)
 
 pub returns-in-Block : goal.returns-in-Block
 returns-in-Block c =

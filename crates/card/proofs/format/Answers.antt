@@ -3,7 +3,6 @@ use native.Mathlib.Omega.{arith}
 use Rattle.refusals.proofs.Tests.{passed, failed}
 use Rattle.disk_layout.proofs.Intervals.{range_facts}
 use Rattle.card.proofs.CallLaws.{sized_long, format_1, format_18, format_done}
-use borrow.Author.Rules.{rules}
 use Rattle.card.proofs.format.Goals as goal
 
 pub returns-then-not-blocks_in_range : goal.returns-then-not-blocks_in_range

@@ -6,7 +6,6 @@ use native.Mathlib.Omega.{arith}
 use Rattle.refusals.proofs.Tests.{passed, failed}
 use Rattle.card.specs.Card.{card_sized}
 use Rattle.card.proofs.CallLaws.{sized_long, formed_short, formed_other, formed_within, formed_past}
-use borrow.Author.Rules.{rules}
 use Rattle.card.proofs.is_formed.Goals as goal
 use Rattle.card.proofs.is_formed.Goals.{After-card_sized}
 

@@ -4,7 +4,6 @@ use Rattle.journal_image.specs.Strip.{blocks_outcome}
 use Rattle.journal_image.specs.declared.BlocksAnswer.{BlocksAnswer}
 use Rattle.card.specs.Calls.{release_call}
 use Rattle.card.proofs.ReleaseLaws.{release_told, release_refused, release_named, release_dropped}
-use borrow.Author.Rules.{rules}
 use Rattle.card.proofs.release.Goals as goal
 use Rattle.card.proofs.release.Goals.{After-release_test-tested}
 

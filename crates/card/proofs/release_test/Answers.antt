@@ -7,7 +7,6 @@ use Rattle.disk_layout.specs.DiskLayout.{blocks_in_range}
 use Rattle.disk_layout.proofs.Intervals.{range_facts}
 use Rattle.journal_image.proofs.Damaged.{damage_some, damage_none}
 use Rattle.card.proofs.ReleaseLaws.{release_1, release_18, release_8, release_12}
-use borrow.Author.Rules.{rules}
 use Rattle.card.proofs.release_test.Goals as goal
 use Rattle.card.proofs.release_test.Goals.{After-is_formed}
 
@@ -36,20 +35,18 @@ returns-then-live_len-lt1 c =
     (omega (arith, c.live_len.ensures, c.if-live_len-lt1.true))
 
 pub live_damage-damage-requires : goal.live_damage-damage-requires
-live_damage-damage-requires c =
-    (
-      (range_facts c.args.n (ranged (goal.at.live_damage-damage-requires c).After-is_formed)).1,
-      passed c.is_formed.ensures c.if-not-is_formed.false-raw,
-    )
+live_damage-damage-requires c = (
+  (range_facts c.args.n (ranged (goal.at.live_damage-damage-requires c).After-is_formed)).1,
+  passed c.is_formed.ensures c.if-not-is_formed.false-raw,
+)
 
 pub release_rows-requires : goal.release_rows-requires
-release_rows-requires c =
-    (
-      ranged (goal.at.release_rows-requires c).After-is_formed,
-      passed c.is_formed.ensures c.if-not-is_formed.false-raw,
-      omega (arith, c.live_len.ensures, c.if-live_len-lt1.false),
-      damage_none _ (sym c.live_damage-damage.ensures ∙ c.in-Nowhere.is),
-    )
+release_rows-requires c = (
+  ranged (goal.at.release_rows-requires c).After-is_formed,
+  passed c.is_formed.ensures c.if-not-is_formed.false-raw,
+  omega (arith, c.live_len.ensures, c.if-live_len-lt1.false),
+  damage_none _ (sym c.live_damage-damage.ensures ∙ c.in-Nowhere.is),
+)
 
 pub returns-in-Block : goal.returns-in-Block
 returns-in-Block c =

@@ -1,7 +1,6 @@
 -- `card::rewrite` meets its contract: the first 4,096 bytes are the new block, the others are as they were. Assumes
 -- nothing.
 use Rattle.card.proofs.CallLaws.{rewritten_back}
-use borrow.Author.Rules.{rules}
 use Rattle.card.proofs.rewrite.Goals as goal
 
 pub returns : goal.returns

@@ -7,7 +7,6 @@ use Rattle.card.specs.Calls.{store_call}
 use Rattle.card.specs.Answers.{stored_outcome}
 use Rattle.card.specs.declared.Stored.{Stored}
 use Rattle.card.proofs.StoreLaws.{store_told, store_kept, store_next}
-use borrow.Author.Rules.{rules}
 use Rattle.card.proofs.store.Goals as goal
 use Rattle.card.proofs.store.Goals.{After-store_test-tested}
 

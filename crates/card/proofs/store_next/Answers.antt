@@ -6,7 +6,6 @@ use Rattle.journal_ring.proofs.Rotation.{advance_lt}
 use Rattle.card.specs.Calls.{image_blocks, rewritten}
 use Rattle.card.proofs.Formed.{Formed, formed_told}
 use Rattle.card.proofs.StoreLaws.{block_put, by_block, by_last}
-use borrow.Author.Rules.{rules}
 use Rattle.card.proofs.store_next.Goals as goal
 use Rattle.card.proofs.store_next.Goals.{After-block_on, Start}
 

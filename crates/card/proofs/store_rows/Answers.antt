@@ -2,7 +2,6 @@
 use native.Mathlib.Omega.{arith}
 use Rattle.card.proofs.StoreLaws.{image_unread, image_read, store_14, store_empty, store_all, store_19}
 use Rattle.card.proofs.StoreLaws.{store_made}
-use borrow.Author.Rules.{rules}
 use Rattle.card.proofs.store_rows.Goals as goal
 
 pub returns-then-not-range_reads : goal.returns-then-not-range_reads

@@ -6,7 +6,6 @@ use Rattle.disk_layout.specs.DiskLayout.{blocks_in_range}
 use Rattle.disk_layout.proofs.Intervals.{range_facts}
 use Rattle.journal_image.proofs.Damaged.{damage_some, damage_none}
 use Rattle.card.proofs.StoreLaws.{store_1, store_18, store_11, store_12}
-use borrow.Author.Rules.{rules}
 use Rattle.card.proofs.store_test.Goals as goal
 use Rattle.card.proofs.store_test.Goals.{After-is_formed}
 
@@ -38,13 +37,12 @@ returns-then-image-ne0 c =
     (passed c.is_formed.ensures c.if-not-is_formed.false-raw) c.if-image-ne0.true
 
 pub store_rows-requires : goal.store_rows-requires
-store_rows-requires c =
-    (
-      ranged (goal.at.store_rows-requires c).After-is_formed,
-      passed c.is_formed.ensures c.if-not-is_formed.false-raw,
-      c.if-image-ne0.false,
-      damage_none _ (sym c.lowest_damaged-damage.ensures ∙ c.in-Nowhere.is),
-    )
+store_rows-requires c = (
+  ranged (goal.at.store_rows-requires c).After-is_formed,
+  passed c.is_formed.ensures c.if-not-is_formed.false-raw,
+  c.if-image-ne0.false,
+  damage_none _ (sym c.lowest_damaged-damage.ensures ∙ c.in-Nowhere.is),
+)
 
 pub returns-in-Block : goal.returns-in-Block
 returns-in-Block c =

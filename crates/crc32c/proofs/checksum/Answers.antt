@@ -5,7 +5,6 @@ use mathlib.Core.List.{◌++◌}
 use Prim.Native.Nat.{ℕ}
 use lib.ListN.{replicate}
 use Rattle.words.specs.Words.{word}
-use borrow.Author.Rules.{rules}
 use Rattle.crc32c.specs.Crc32c.{checksum_bytes}
 use Rattle.crc32c.proofs.checksum.Goals as goal
 

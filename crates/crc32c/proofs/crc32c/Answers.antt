@@ -3,7 +3,6 @@
 use mathlib.Core.Path.{ap}
 use Prim.Native.Nat.{ℕ}
 use lib.Bits.{bit_xor}
-use borrow.Author.Rules.{rules}
 use Rattle.crc32c.specs.Crc32c.{all_ones, crc32c_of}
 use Rattle.crc32c.proofs.crc32c.Goals as goal
 

@@ -1,12 +1,10 @@
 -- `crc32c::with_bytes` meets its contract. The invariant: the register with the bytes that are left is the register
 -- with all. Assumes nothing.
-use mathlib.Core.Path.{◌≡◌, ◌∙◌, sym}
+use mathlib.Core.Path.{◌≡◌}
 use mathlib.Core.List.{foldl}
 use Prim.Native.Nat.{◌≤◌, ◌-◌}
 use lib.ListN.{length, drop}
-use borrow.Author.Rules.{rules}
 use Rattle.crc32c_register.specs.Register.{step_byte}
-use Rattle.crc32c.proofs.Lanes.{from_next, from_end}
 use Rattle.crc32c.proofs.with_bytes.Given as goal
 
 abbrev pub invariant-loop-i : goal.invariant-loop-i

@@ -1,15 +1,14 @@
 -- `crc32c::with_due` meets its contract. The invariant: the register, what is due and the bytes that are left come
 -- to what they came to at first. Assumes nothing.
-use mathlib.Core.Path.{◌≡◌, refl, ap, ◌∙◌}
-use mathlib.Core.List.{[], ◌∷◌, foldl}
-use Prim.Native.Nat.{ℕ, ◌≤◌, ◌-◌}
+use mathlib.Core.Path.{refl, ap, ◌∙◌}
+use mathlib.Core.List.{foldl}
+use Prim.Native.Nat.{ℕ}
 use native.Mathlib.Omega.{arith}
 use lib.Bits.{bit_xor}
-use lib.ListN.{length, drop, length-drop}
+use lib.ListN.{drop, length-drop}
 use borrow.Author.Rules.{rules}
 use Rattle.crc32c_register.specs.Register.{step_byte}
 use Rattle.words.proofs.Slices.{tail}
-use Rattle.crc32c.specs.Lanes.{lanes}
 use Rattle.crc32c.proofs.Lanes.{due_turn, due_end}
 use Rattle.crc32c.proofs.with_due.Goals as goal
 
@@ -18,8 +17,7 @@ loop-i-init c = (search rules, refl)
 
 pub loop-i-preserved : goal.loop-i-preserved
 loop-i-preserved c =
-    let at = c.loop-i in
-    (
+    let at = c.loop-i in (
       search rules,
       due_turn c.args.s.now (λ k.
           (c.shared_slice_known-1.given k).fits)

@@ -1,11 +1,8 @@
 -- `crc32c::with_words` meets its contract. The invariant: the four registers, with the bytes that are left, are the
 -- register with all. Assumes nothing.
-use mathlib.Core.Path.{◌≡◌, ap, ◌∙◌}
-use mathlib.Core.List.{[], ◌∷◌, foldl}
-use Prim.Native.Nat.{◌-◌, ◌≤◌}
-use lib.ListN.{length, drop}
+use mathlib.Core.Path.{ap, ◌∙◌}
+use mathlib.Core.List.{[], ◌∷◌}
 use borrow.Author.Rules.{rules}
-use Rattle.crc32c_register.specs.Register.{step_byte}
 use Rattle.words.proofs.Slices.{tail}
 use Rattle.crc32c.specs.Lanes.{lanes}
 use Rattle.crc32c.proofs.Lanes.{lanes_none, turn_at}
@@ -16,8 +13,7 @@ loop-i-init c = (search rules, lanes_none 3 _ _)
 
 pub loop-i-preserved : goal.loop-i-preserved
 loop-i-preserved c =
-    let at = c.loop-i in
-    (
+    let at = c.loop-i in (
       search rules,
       turn_at c.args.s.now (λ k.
           (c.shared_slice_known-1.given k).fits)

@@ -1,14 +1,11 @@
 -- `crc32c::with_words` meets its contract. The invariant: the four registers, with the bytes that are left, are the
 -- register with all. Assumes nothing.
-use mathlib.Core.Path.{◌≡◌, ap, ◌∙◌}
+use mathlib.Core.Path.{◌≡◌}
 use mathlib.Core.List.{[], ◌∷◌, foldl}
 use Prim.Native.Nat.{◌-◌, ◌≤◌}
 use lib.ListN.{length, drop}
-use borrow.Author.Rules.{rules}
 use Rattle.crc32c_register.specs.Register.{step_byte}
-use Rattle.words.proofs.Slices.{tail}
 use Rattle.crc32c.specs.Lanes.{lanes}
-use Rattle.crc32c.proofs.Lanes.{lanes_none, turn_at}
 use Rattle.crc32c.proofs.with_words.Given as goal
 
 abbrev pub invariant-loop-i : goal.invariant-loop-i

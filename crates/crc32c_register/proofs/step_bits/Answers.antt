@@ -1,10 +1,5 @@
-use mathlib.Core.Path.{◌≡◌, refl, sym, ◌∙◌}
-use borrow.Author.Rules.{rules}
-use Rattle.crc32c_register.specs.Register.{step_bits}
+use mathlib.Core.Path.{sym, ◌∙◌}
 use Rattle.crc32c_register.proofs.Turns.{steps_turn, steps_end}
-use Rattle.crc32c_register.proofs.step_bits.Reads as reads
-use Rattle.crc32c_register.proofs.step_bits.Lts as lts
-use Rattle.crc32c_register.proofs.step_bit.Reads as step-bit-reads
 use Rattle.crc32c_register.proofs.step_bits.Goals as goal
 
 -- src/lib.rt:16:5

@@ -1,10 +1,5 @@
-use mathlib.Core.Path.{◌≡◌, refl, sym, ◌∙◌}
-use borrow.Author.Rules.{rules}
+use mathlib.Core.Path.{◌≡◌}
 use Rattle.crc32c_register.specs.Register.{step_bits}
-use Rattle.crc32c_register.proofs.Turns.{steps_turn, steps_end}
-use Rattle.crc32c_register.proofs.step_bits.Reads as reads
-use Rattle.crc32c_register.proofs.step_bits.Lts as lts
-use Rattle.crc32c_register.proofs.step_bit.Reads as step-bit-reads
 use Rattle.crc32c_register.proofs.step_bits.Given as goal
 
 abbrev pub invariant-loop-left : goal.invariant-loop-left

@@ -1,6 +1,5 @@
 -- `crc32c_register::step_byte` meets its contract: a byte's steps are those of its two halves.
 -- Assumes nothing.
-use borrow.Author.Rules.{rules}
 use Rattle.crc32c_register.proofs.Steps.{by_halves}
 use Rattle.crc32c_register.proofs.step_byte.Goals as goal
 

@@ -2,7 +2,6 @@
 -- is left. Assumes nothing.
 use mathlib.Core.Path.{ap, ◌∙◌}
 use native.Mathlib.Omega.{arith}
-use borrow.Author.Rules.{rules}
 use Rattle.crc32c_register.specs.Register.{step_bits}
 use Rattle.crc32c_register.proofs.Steps.{by_digit}
 use Rattle.crc32c_tables.proofs.step_128.Goals as goal

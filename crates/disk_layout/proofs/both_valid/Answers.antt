@@ -1,7 +1,6 @@
 -- `both_valid` meets its contract: where the first interval is valid, the answer is that of the second.
 -- Assumes nothing.
 use Rattle.refusals.proofs.Tests.{told}
-use borrow.Author.Rules.{rules}
 use Rattle.disk_layout.proofs.both_valid.Goals as goal
 
 pub returns-then-valid_interval : goal.returns-then-valid_interval

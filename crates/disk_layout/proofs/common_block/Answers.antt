@@ -1,7 +1,6 @@
 -- `common_block` meets its contract: an empty interval shares nothing, and of two others overlap tells.
 -- Assumes nothing.
 use Rattle.disk_layout.proofs.Sharing.{shares_overlap, shares_symmetric, empty_shares}
-use borrow.Author.Rules.{rules}
 use mathlib.Core.Path.{sym, ◌∙◌}
 use native.Mathlib.Omega.{arith}
 use Rattle.disk_layout.proofs.common_block.Goals as goal

@@ -1,7 +1,6 @@
 -- `contiguous_interval` meets its contract: the length is within the room behind the start exactly when the end is
 -- within the region. Assumes nothing.
 use Rattle.disk_layout.proofs.Intervals.{contiguous_past, contiguous_room}
-use borrow.Author.Rules.{rules}
 use Rattle.disk_layout.proofs.contiguous_interval.Goals as goal
 
 pub returns-then-i-n : goal.returns-then-i-n

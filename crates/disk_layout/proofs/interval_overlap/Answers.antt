@@ -2,7 +2,6 @@
 -- Assumes nothing.
 use Rattle.refusals.proofs.Tests.{decides}
 use Rattle.disk_layout.specs.JournalInterval.{journal_interval_overlap}
-use borrow.Author.Rules.{rules}
 use Rattle.disk_layout.proofs.interval_overlap.Goals as goal
 
 pub returns-then-b-start : goal.returns-then-b-start

@@ -7,7 +7,6 @@ use Rattle.refusals.proofs.Tests.{failed, passed}
 use Rattle.disk_layout.specs.Calls.{back_call}
 use Rattle.disk_layout.specs.DiskLayout.{blocks_in_range}
 use Rattle.disk_layout.specs.JournalInterval.{valid_journal_interval, interval}
-use borrow.Author.Rules.{rules}
 use mathlib.Core.Bool.{true}
 use mathlib.Core.Path.{◌≡◌}
 use native.Mathlib.Omega.{arith}

@@ -6,7 +6,6 @@ use Rattle.refusals.proofs.Tests.{failed, passed}
 use Rattle.disk_layout.specs.Calls.{front_call}
 use Rattle.disk_layout.specs.DiskLayout.{blocks_in_range}
 use Rattle.disk_layout.specs.JournalInterval.{journal_front_interval, valid_journal_interval, interval}
-use borrow.Author.Rules.{rules}
 use borrow.Author.Tests.{eq-eqb, le-leb, lt-leb, ne_eqb}
 use mathlib.Core.Bool.{true}
 use mathlib.Core.Path.{◌≡◌}
@@ -46,11 +45,11 @@ pub returns-then-len-n : goal.returns-then-len-n
 unfolding front_call journal_front_interval
 returns-then-len-n c =
     simp (
-  ranged (goal.at.returns-then-len-n c).Else-not-blocks_in_range,
-  valid (goal.at.returns-then-len-n c).Else-not-valid_interval,
-  ne_eqb _ _ c.if-len-eq0.false,
-  le-leb _ _ c.if-len-n.true,
-)
+      ranged (goal.at.returns-then-len-n c).Else-not-blocks_in_range,
+      valid (goal.at.returns-then-len-n c).Else-not-valid_interval,
+      ne_eqb _ _ c.if-len-eq0.false,
+      le-leb _ _ c.if-len-n.true,
+    )
 
 pub overflow_sub-result : goal.overflow_sub-result
 overflow_sub-result c = omega (arith, inside (goal.at.overflow_sub-result c).Else-not-valid_interval)
@@ -59,8 +58,8 @@ pub returns : goal.returns
 unfolding front_call journal_front_interval
 returns c =
     simp (
-  ranged (goal.at.returns c).Else-not-blocks_in_range,
-  valid (goal.at.returns c).Else-not-valid_interval,
-  ne_eqb _ _ c.if-len-eq0.false,
-  lt-leb _ _ c.if-len-n.false,
-)
+      ranged (goal.at.returns c).Else-not-blocks_in_range,
+      valid (goal.at.returns c).Else-not-valid_interval,
+      ne_eqb _ _ c.if-len-eq0.false,
+      lt-leb _ _ c.if-len-n.false,
+    )

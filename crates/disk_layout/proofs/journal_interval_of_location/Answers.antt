@@ -5,7 +5,6 @@ use Rattle.disk_layout.proofs.Locations.{location_facts}
 use Rattle.refusals.proofs.Tests.{failed, passed}
 use Rattle.disk_layout.specs.Calls.{interval_call}
 use Rattle.disk_layout.specs.DiskLayout.{valid_journal_location, blocks_in_range}
-use borrow.Author.Rules.{rules}
 use mathlib.Core.Bool.{true}
 use mathlib.Core.Path.{◌≡◌}
 use native.Mathlib.Omega.{arith}
@@ -35,10 +34,10 @@ returns-then-not-valid_location c =
 pub overflow_sub-result : goal.overflow_sub-result
 overflow_sub-result c =
     omega (
-  arith,
-  location_facts c.args.n
-      c.args.loc (valid (goal.at.overflow_sub-result c).Else-not-valid_location),
-)
+      arith,
+      location_facts c.args.n
+          c.args.loc (valid (goal.at.overflow_sub-result c).Else-not-valid_location),
+    )
 
 pub returns : goal.returns
 unfolding interval_call

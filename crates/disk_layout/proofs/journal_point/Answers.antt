@@ -4,7 +4,6 @@ use Rattle.disk_layout.proofs.Intervals.{range_facts}
 use Rattle.refusals.proofs.Tests.{failed, passed}
 use Rattle.disk_layout.specs.Calls.{point_call}
 use Rattle.disk_layout.specs.DiskLayout.{blocks_in_range}
-use borrow.Author.Rules.{rules}
 use borrow.Author.Tests.{le-leb, lt-leb}
 use mathlib.Core.Bool.{true}
 use mathlib.Core.Path.{◌≡◌}

@@ -5,7 +5,6 @@ use Rattle.refusals.proofs.Tests.{failed, passed}
 use Rattle.disk_layout.specs.Calls.{location_call}
 use Rattle.disk_layout.specs.DiskLayout.{blocks_in_range}
 use Rattle.disk_layout.specs.JournalInterval.{contiguous_journal_interval}
-use borrow.Author.Rules.{rules}
 use mathlib.Core.Bool.{true}
 use mathlib.Core.Path.{◌≡◌}
 use native.Mathlib.Omega.{arith}
@@ -32,32 +31,32 @@ returns-then-not-contiguous_interval c =
 pub overflow_mul-result : goal.overflow_mul-result
 overflow_mul-result c =
     omega (
-  arith,
-  range_facts c.args.n
-      (ranged (goal.at.overflow_mul-result c).Else-not-blocks_in_range),
-  contiguous_facts c.args.n
-      c.args.indices (valid (goal.at.overflow_mul-result c).Else-not-contiguous_interval),
-)
+      arith,
+      range_facts c.args.n
+          (ranged (goal.at.overflow_mul-result c).Else-not-blocks_in_range),
+      contiguous_facts c.args.n
+          c.args.indices (valid (goal.at.overflow_mul-result c).Else-not-contiguous_interval),
+    )
 
 pub overflow_add-result : goal.overflow_add-result
 overflow_add-result c =
     omega (
-  arith,
-  range_facts c.args.n
-      (ranged (goal.at.overflow_add-result c).Else-not-blocks_in_range),
-  contiguous_facts c.args.n
-      c.args.indices (valid (goal.at.overflow_add-result c).Else-not-contiguous_interval),
-)
+      arith,
+      range_facts c.args.n
+          (ranged (goal.at.overflow_add-result c).Else-not-blocks_in_range),
+      contiguous_facts c.args.n
+          c.args.indices (valid (goal.at.overflow_add-result c).Else-not-contiguous_interval),
+    )
 
 pub overflow_mul-result-2 : goal.overflow_mul-result-2
 overflow_mul-result-2 c =
     omega (
-  arith,
-  range_facts c.args.n
-      (ranged (goal.at.overflow_mul-result-2 c).Else-not-blocks_in_range),
-  contiguous_facts c.args.n
-      c.args.indices (valid (goal.at.overflow_mul-result-2 c).Else-not-contiguous_interval),
-)
+      arith,
+      range_facts c.args.n
+          (ranged (goal.at.overflow_mul-result-2 c).Else-not-blocks_in_range),
+      contiguous_facts c.args.n
+          c.args.indices (valid (goal.at.overflow_mul-result-2 c).Else-not-contiguous_interval),
+    )
 
 pub returns : goal.returns
 unfolding location_call

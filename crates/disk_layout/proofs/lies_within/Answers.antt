@@ -29,18 +29,18 @@ overflow_add-a-3 c = omega (arith, c.requires.n_bound, facts (goal.at.overflow_a
 pub overflow_add-a-4 : goal.overflow_add-a-4
 overflow_add-a-4 c =
     omega (
-  arith,
-  c.requires.n_bound,
-  facts (goal.at.overflow_add-a-4 c).Start,
-)
+      arith,
+      c.requires.n_bound,
+      facts (goal.at.overflow_add-a-4 c).Start,
+    )
 
 pub within-requires-2 : goal.within-requires-2
 within-requires-2 c =
     omega (
-  arith,
-  c.requires.n_bound,
-  facts (goal.at.within-requires-2 c).Start,
-)
+      arith,
+      c.requires.n_bound,
+      facts (goal.at.within-requires-2 c).Start,
+    )
 
 pub returns : goal.returns
 unfolding subinterval

@@ -5,7 +5,6 @@ use Rattle.refusals.proofs.Tests.{failed, passed}
 use Rattle.disk_layout.specs.Calls.{next_start_call}
 use Rattle.disk_layout.specs.DiskLayout.{blocks_in_range}
 use Rattle.disk_layout.specs.JournalInterval.{next_start_point, valid_journal_interval}
-use borrow.Author.Rules.{rules}
 use borrow.Author.Tests.{le-ltb, lt-ltb}
 use mathlib.Core.Bool.{true}
 use mathlib.Core.Path.{◌≡◌}
@@ -33,12 +32,12 @@ returns-then-not-valid_interval c =
 pub overflow_add-end : goal.overflow_add-end
 overflow_add-end c =
     omega (
-  arith,
-  range_facts c.args.n
-      (ranged (goal.at.overflow_add-end c).Else-not-blocks_in_range),
-  valid_facts c.args.n
-      c.args.indices (valid (goal.at.overflow_add-end c).Else-not-valid_interval),
-)
+      arith,
+      range_facts c.args.n
+          (ranged (goal.at.overflow_add-end c).Else-not-blocks_in_range),
+      valid_facts c.args.n
+          c.args.indices (valid (goal.at.overflow_add-end c).Else-not-valid_interval),
+    )
 
 pub returns-then-end-n : goal.returns-then-end-n
 unfolding next_start_call next_start_point

@@ -6,7 +6,6 @@ use Rattle.disk_layout.specs.Calls.{subinterval_call}
 use Rattle.disk_layout.specs.DiskLayout.{blocks_in_range}
 use Rattle.disk_layout.specs.JournalInterval.{valid_journal_interval}
 use Rattle.refusals.specs.Outcome.{gives}
-use borrow.Author.Rules.{rules}
 use mathlib.Core.Bool.{◌&&◌, true}
 use mathlib.Core.Path.{◌≡◌, ap}
 use Rattle.disk_layout.proofs.subinterval.Goals as goal

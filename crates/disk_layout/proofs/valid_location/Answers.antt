@@ -1,7 +1,6 @@
 -- `valid_location` meets its contract: a failed test rules the location out, and the last is the one on its end.
 -- Assumes nothing.
 use Rattle.disk_layout.proofs.Locations.{location_none, location_past, location_room}
-use borrow.Author.Rules.{rules}
 use native.Mathlib.Omega.{arith}
 use Rattle.disk_layout.proofs.valid_location.Goals as goal
 

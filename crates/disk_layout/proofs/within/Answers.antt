@@ -1,7 +1,6 @@
 -- `within` meets its contract: its two tests are those that the contract names.
 -- Assumes nothing.
 use Rattle.refusals.proofs.Tests.{decides}
-use borrow.Author.Rules.{rules}
 use Rattle.disk_layout.proofs.within.Goals as goal
 
 pub returns-then-b-start : goal.returns-then-b-start

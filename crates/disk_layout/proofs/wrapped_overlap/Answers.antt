@@ -2,7 +2,6 @@
 -- Assumes nothing.
 use Rattle.refusals.proofs.Tests.{told}
 use Rattle.disk_layout.specs.JournalInterval.{wrapped_overlap}
-use borrow.Author.Rules.{rules}
 use Rattle.disk_layout.proofs.wrapped_overlap.Goals as goal
 
 pub returns-then-interval_overlap : goal.returns-then-interval_overlap

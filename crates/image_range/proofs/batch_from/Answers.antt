@@ -1,6 +1,5 @@
 -- `batch_from` meets its contract: the part from a block on is a part of a with all of b, or a part of b; past the
 -- end there is no batch. Assumes nothing.
-use borrow.Author.Rules.{rules}
 use mathlib.Core.Path.{◌∙◌}
 use mathlib.Core.List.{◌++◌}
 use Prim.Native.Nat.{◌*◌}

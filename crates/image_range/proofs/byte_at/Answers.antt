@@ -1,6 +1,5 @@
 -- `byte_at` meets its contract: in the payload the byte stands at its place in the image, past its end it is 0.
 -- Assumes nothing.
-use borrow.Author.Rules.{rules}
 use mathlib.Core.Path.{◌∙◌}
 use mathlib.Core.List.{◌++◌}
 use native.Mathlib.Omega.{arith}

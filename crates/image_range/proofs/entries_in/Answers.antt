@@ -4,11 +4,10 @@ use Prim.Native.Nat.{ℕ, ◌+◌, ◌*◌, ◌/◌}
 use mathlib.Core.List.{List, ◌++◌}
 use mathlib.Core.Path.{◌≡◌, sym, ◌∙◌}
 use native.Mathlib.Omega.{arith}
-use borrow.Author.Rules.{rules}
 use lib.ListN.{length}
 use Rattle.image_range.specs.InPlace.{image_payload}
 use Rattle.image_range.proofs.Places.{length_joined}
-use Rattle.image_range.proofs.Walks.{Passing, passed_back, passed_outside, passing_starts, passing_more}
+use Rattle.image_range.proofs.Walks.{passed_back, passed_outside, passing_starts, passing_more}
 use Rattle.image_range.proofs.Walks.{passing_stops, passing_ends}
 use Rattle.image_range.proofs.entries_in.Goals as goal
 use Rattle.image_range.proofs.entries_in.Goals.{Start}

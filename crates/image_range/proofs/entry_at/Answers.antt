@@ -1,6 +1,5 @@
 -- `entry_at` meets its contract: what does not lie there contradicts `Readable`, and `placed` judges the two words
 -- that were read. Assumes nothing.
-use borrow.Author.Rules.{rules}
 use Prim.Native.Nat.{ℕ, ◌+◌, ◌*◌, ◌/◌, ◌≤◌, ◌<◌}
 use mathlib.Core.Path.{◌≡◌, sym, ap, ◌∙◌}
 use mathlib.Core.List.{List, ◌++◌}

@@ -1,6 +1,5 @@
 -- `lowest_damaged` meets its contract: a's lowest damaged block, or else b's counted on from a's blocks.
 -- Assumes nothing.
-use borrow.Author.Rules.{rules}
 use mathlib.Core.Path.{sym, ◌∙◌}
 use native.Mathlib.Omega.{arith}
 use Rattle.image_range.proofs.Damage.{block_below, of_a, of_b, of_neither}

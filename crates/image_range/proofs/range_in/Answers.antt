@@ -1,15 +1,14 @@
 -- `range_in` meets its contract: the sums so far, with those of what is left, are always those of the whole; a
 -- batch has a block at least, so the loop ends. Assumes nothing.
-use borrow.Author.Rules.{rules}
 use mathlib.Core.Path.{◌≡◌, sym, ap, ◌∙◌}
 use mathlib.Core.List.{List, ◌++◌}
-use Prim.Native.Nat.{ℕ, ◌+◌, ◌-◌, ◌*◌, ◌/◌}
+use Prim.Native.Nat.{ℕ, ◌+◌, ◌*◌, ◌/◌}
 use native.Mathlib.Omega.{arith}
 use lib.ListN.{length, drop}
 use Rattle.journal_range.specs.declared.BatchRead.TheVariants.{Read}
 use Rattle.journal_range.specs.declared.BatchPlace.{BatchPlace}
 use Rattle.journal_range.specs.Payload.{front_batch, batch_answer, range_answer, range_of}
-use Rattle.journal_range.proofs.Totals.{total, Summed, summed_none, summed_end, summed_no, Turn}
+use Rattle.journal_range.proofs.Totals.{total, summed_none, summed_end, summed_no, Turn}
 use Rattle.image_range.specs.InPlace.{image_payload}
 use Rattle.image_range.proofs.Places.{length_joined}
 use Rattle.image_range.proofs.Ranges.{image_range, turn_blocks, summed_blocks}
@@ -58,10 +57,10 @@ overflow_add-entries c =
 pub overflow_add-bytes : goal.overflow_add-bytes
 overflow_add-bytes c =
     omega (
-  arith,
-  bounds (goal.at.overflow_add-bytes c).In-Read,
-  c.loop-block.invariant,
-)
+      arith,
+      bounds (goal.at.overflow_add-bytes c).In-Read,
+      c.loop-block.invariant,
+    )
 
 pub overflow_add-block : goal.overflow_add-block
 overflow_add-block c = omega (arith, bounds (goal.at.overflow_add-block c).In-Read)

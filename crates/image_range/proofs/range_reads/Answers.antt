@@ -1,6 +1,5 @@
 -- `range_reads` meets its contract: whether there is an answer, by its cases.
 -- Assumes nothing.
-use borrow.Author.Rules.{rules}
 use mathlib.Core.Path.{sym, ◌∙◌}
 use mathlib.Core.List.{◌++◌}
 use Rattle.journal_range.specs.Payload.{range_of}

@@ -1,6 +1,5 @@
 -- `word_across` meets its contract: the word at a place is said by the four bytes from there on, 0 past the end.
 -- Assumes nothing.
-use borrow.Author.Rules.{rules}
 use mathlib.Core.List.{◌++◌}
 use native.Mathlib.Omega.{arith}
 use Rattle.journal_entry.proofs.Joined.{word_bytes}

@@ -1,6 +1,5 @@
 -- `word_at` meets its contract: past the payload it is 0, within a block it stands at its place in the image, else
 -- it is read across. Assumes nothing.
-use borrow.Author.Rules.{rules}
 use mathlib.Core.Path.{◌∙◌}
 use mathlib.Core.List.{◌++◌}
 use native.Mathlib.Omega.{arith}

@@ -3,7 +3,6 @@
 use mathlib.Core.Path.{sym, ◌∙◌}
 use mathlib.Core.List.{◌++◌}
 use Rattle.journal_c.proofs.Totals.{unread, no_room, room}
-use borrow.Author.Rules.{rules}
 use Rattle.journal_c.proofs.journal_range.Goals as goal
 
 pub returns-then-totals-lt2 : goal.returns-then-totals-lt2

@@ -4,7 +4,6 @@ use mathlib.Core.Path.{sym, ap, ◌∙◌}
 use native.Mathlib.Omega.{arith}
 use Rattle.journal_image.proofs.Outcomes.{answer_told, named_below}
 use Rattle.record_words.specs.Calls.{code_of}
-use borrow.Author.Rules.{rules}
 use Rattle.journal_c.proofs.journal_strip.Goals as goal
 
 pub overflow_mul-result : goal.overflow_mul-result
@@ -23,7 +22,7 @@ pub returns-in-Blocks : goal.returns-in-Blocks
 returns-in-Blocks c =
     record {
       value = sym (ap code_of (answer_told c.strip-stripped.ensures.result_value
-      c.in-Blocks.is));
+          c.in-Blocks.is));
       out_new = c.strip-stripped.ensures.out_new;
     }
 
@@ -31,7 +30,7 @@ pub returns-in-ChecksumDiffers : goal.returns-in-ChecksumDiffers
 returns-in-ChecksumDiffers c =
     record {
       value = sym (ap code_of (answer_told c.strip-stripped.ensures.result_value
-      c.in-ChecksumDiffers.is));
+          c.in-ChecksumDiffers.is));
       out_new = c.strip-stripped.ensures.out_new;
     }
 
@@ -39,7 +38,7 @@ pub returns-in-Refused : goal.returns-in-Refused
 returns-in-Refused c =
     record {
       value = c.number.ensures
-      ∙ sym (ap code_of (answer_told c.strip-stripped.ensures.result_value
-      c.in-Refused.is));
+          ∙ sym (ap code_of (answer_told c.strip-stripped.ensures.result_value
+          c.in-Refused.is));
       out_new = c.strip-stripped.ensures.out_new;
     }

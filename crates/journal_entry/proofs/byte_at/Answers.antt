@@ -1,7 +1,6 @@
 -- `byte_at` meets its contract: a place below the length of a is one of a, any other one of b, less that length.
 -- Assumes nothing.
 use mathlib.Core.Path.{sym, ◌∙◌}
-use borrow.Author.Rules.{rules}
 use lib.ListN.{get_or-eq_default}
 use Rattle.journal_entry.proofs.Joined.{get_d_left, get_d_right}
 use Rattle.journal_entry.proofs.byte_at.Goals as goal

@@ -4,10 +4,9 @@ use Prim.Native.Nat.{ℕ}
 use mathlib.Core.List.{List, ◌++◌}
 use mathlib.Core.Path.{◌≡◌, sym, ◌∙◌}
 use native.Mathlib.Omega.{arith}
-use borrow.Author.Rules.{rules}
 use lib.ListN.{length-append}
 use Rattle.journal_entry.specs.Places.{is_clone_kind}
-use Rattle.journal_entry.proofs.Walks.{Walking, walk_back, walk_outside, walk_starts, walk_few, walk_more}
+use Rattle.journal_entry.proofs.Walks.{walk_back, walk_outside, walk_starts, walk_few, walk_more}
 use Rattle.journal_entry.proofs.Walks.{walk_stops, walk_ends}
 use Rattle.journal_entry.proofs.counted_in.Goals as goal
 use Rattle.journal_entry.proofs.counted_in.Goals.{Start}

@@ -2,7 +2,6 @@
 -- Assumes nothing.
 use mathlib.Core.List.{List, ◌++◌}
 use Prim.Native.Nat.{ℕ}
-use borrow.Author.Rules.{rules}
 use Rattle.journal_entry.proofs.Walks.{counted_end, counted_stops}
 use Rattle.journal_entry.proofs.entries_in.Goals as goal
 use Rattle.journal_entry.proofs.entries_in.Goals.{Start}

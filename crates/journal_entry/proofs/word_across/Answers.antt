@@ -2,7 +2,6 @@
 -- Assumes nothing.
 use mathlib.Core.List.{◌++◌}
 use native.Mathlib.Omega.{arith}
-use borrow.Author.Rules.{rules}
 use Rattle.journal_entry.proofs.Joined.{word_bytes}
 use Rattle.journal_entry.proofs.word_across.Goals as goal
 

@@ -2,7 +2,6 @@
 -- Assumes nothing.
 use mathlib.Core.Path.{sym, ◌∙◌}
 use native.Mathlib.Omega.{arith}
-use borrow.Author.Rules.{rules}
 use Rattle.journal_entry.proofs.Joined.{word_left, word_right}
 use Rattle.journal_entry.proofs.word_at.Goals as goal
 

@@ -3,7 +3,6 @@
 use Prim.Native.Nat.{ℕ}
 use mathlib.Core.List.{List, append-nil}
 use mathlib.Core.Path.{sym, ap, ◌∙◌}
-use borrow.Author.Rules.{rules}
 use Rattle.journal_entry.specs.Places.{word_at}
 use Rattle.journal_entry.proofs.Joined.{word_past}
 use Rattle.journal_entry.proofs.word_from.Goals as goal

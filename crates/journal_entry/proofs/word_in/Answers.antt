@@ -1,7 +1,6 @@
 -- `word_in` meets its contract: the word at a place is said by the four bytes from there on.
 -- Assumes nothing.
 use mathlib.Core.Path.{sym, ◌∙◌}
-use borrow.Author.Rules.{rules}
 use Rattle.journal_entry.proofs.Joined.{word_bytes}
 use Rattle.journal_entry.proofs.word_in.Goals as goal
 

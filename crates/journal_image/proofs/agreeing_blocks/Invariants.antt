@@ -1,10 +1,8 @@
 -- `journal_image::agreeing_blocks` meets its contract: the blocks passed agree, so what is left of the search is
 -- the whole of it. Assumes nothing.
 use Prim.Native.Nat.{◌-◌, ◌*◌, ◌≤◌}
-use borrow.Author.Rules.{rules}
-use borrow.Author.Tests.{not-true, not-false}
 use lib.ListN.{length}
-use Rattle.journal_image.proofs.Agreeing.{Agreed, agreed_none, agreed_more, agreed_stop, agreed_end}
+use Rattle.journal_image.proofs.Agreeing.{Agreed}
 use Rattle.journal_image.proofs.agreeing_blocks.Given as goal
 
 abbrev pub invariant-loop-k : goal.invariant-loop-k

@@ -13,7 +13,6 @@ use Rattle.crc32c.proofs.Range.{length_checksum_bytes}
 use Rattle.words.proofs.Slices.{tail}
 use Rattle.journal_image.specs.Image.{same_bytes, checksum_checks_out}
 use Rattle.journal_image.proofs.Same.{decides, shorter}
-use borrow.Author.Rules.{rules}
 use Rattle.journal_image.proofs.block_agrees.Goals as goal
 
 pub returns-then-block-lt32 : goal.returns-then-block-lt32

@@ -1,8 +1,6 @@
 -- `journal_image::copy_blocks` meets its contract: each turn writes the next payload behind those written, and
 -- bytes behind it are as they were. Assumes nothing.
-use Prim.Native.Nat.{◌-◌}
-use borrow.Author.Rules.{rules}
-use Rattle.journal_image.proofs.Payloads.{Copied, copied_none, copied_more, copied_end}
+use Rattle.journal_image.proofs.Payloads.{copied_none, copied_more, copied_end}
 use Rattle.journal_image.proofs.copy_blocks.Goals as goal
 
 pub loop-done-init : goal.loop-done-init

@@ -5,7 +5,6 @@ use Prim.Native.Nat.{◌/◌}
 use lib.ListN.{length}
 use Rattle.journal_image.specs.Damage.{damage_of}
 use Rattle.journal_image.proofs.Damaged.{lowest_some, lowest_none}
-use borrow.Author.Rules.{rules}
 use Rattle.journal_image.proofs.lowest_damaged.Goals as goal
 
 pub returns-then-agreeing-blocks : goal.returns-then-agreeing-blocks

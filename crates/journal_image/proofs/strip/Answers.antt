@@ -8,7 +8,6 @@ use Rattle.refusals.specs.declared.Refusal.TheVariants.{ImageNotWhole, OutputToo
 use Rattle.journal_image.specs.declared.BlocksAnswer.TheVariants.{Blocks, ChecksumDiffers, Refused}
 use Rattle.journal_image.proofs.Damaged.{damage_some, damage_none}
 use Rattle.journal_image.proofs.Outcomes.{strip_11, strip_9, strip_last, answered}
-use borrow.Author.Rules.{rules}
 use Rattle.journal_image.proofs.strip.Goals as goal
 
 pub returns-then-image-ne0 : goal.returns-then-image-ne0

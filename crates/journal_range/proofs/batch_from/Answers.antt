@@ -1,6 +1,5 @@
 -- The part from `at` on is a part of a with all of b, or a part of b; past the end there is nothing, and nothing
 -- holds no batch. Assumes nothing.
-use borrow.Author.Rules.{rules}
 use mathlib.Core.Path.{sym, ap, ◌∙◌}
 use mathlib.Core.List.{List, [], ◌++◌}
 use Prim.Native.Nat.{ℕ}

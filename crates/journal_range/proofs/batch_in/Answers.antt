@@ -1,6 +1,5 @@
 -- The two words in front are the header; each test of it that fails leaves no batch, and where all hold the walk
 -- over the entries decides. Assumes nothing.
-use borrow.Author.Rules.{rules}
 use mathlib.Core.Path.{◌≡◌, sym, ap, ap₂, ◌∙◌}
 use mathlib.Core.List.{List, ◌++◌}
 use Prim.Native.Nat.{ℕ, ◌+◌, ◌*◌}

@@ -1,6 +1,5 @@
 -- The run lies in a, in b, or across; there two runs, one put behind the other, are the run.
 -- Assumes nothing.
-use borrow.Author.Rules.{rules}
 use mathlib.Core.Path.{sym, ap, ◌∙◌}
 use native.Mathlib.Omega.{arith}
 use Rattle.words.specs.Lists.{splice}

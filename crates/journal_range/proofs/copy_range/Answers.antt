@@ -1,9 +1,8 @@
 -- The buffer, with the wire forms of what is left put behind the bytes copied, is always the buffer with all of them.
 -- Assumes nothing.
-use borrow.Author.Rules.{rules}
 use mathlib.Core.Path.{◌≡◌, refl, sym, ◌∙◌}
 use mathlib.Core.List.{List, ◌++◌}
-use Prim.Native.Nat.{ℕ, ◌+◌, ◌-◌, ◌≤◌}
+use Prim.Native.Nat.{ℕ, ◌+◌, ◌≤◌}
 use native.Mathlib.Omega.{arith}
 use lib.ListN.{length, length-append, drop}
 use Rattle.words.proofs.Slices.{Bytes}
@@ -12,7 +11,7 @@ use Rattle.journal_range.specs.declared.BatchPlace.{BatchPlace}
 use Rattle.journal_range.specs.declared.BatchRead.TheVariants.{Read}
 use Rattle.journal_range.specs.Payload.{front_batch, batch_answer}
 use Rattle.journal_range.proofs.Totals.{Turn, turn}
-use Rattle.journal_range.proofs.Loading.{Loading, fits, loaded_end, loaded_no, loaded_more}
+use Rattle.journal_range.proofs.Loading.{fits, loaded_end, loaded_no, loaded_more}
 use Rattle.journal_range.proofs.copy_range.Goals as goal
 use Rattle.journal_range.proofs.copy_range.Goals.{At-loop-here, In-Read, Start}
 
@@ -48,8 +47,8 @@ bounds c =
     record {
       turned = turn (c.args.front.now ++ c.args.back.now) (length c.args.front.now + length c.args.back.now) c.loop-here.here (sym (length-append c.args.front.now c.args.back.now)) c.loop-here.invariant.inside (place c) (got c);
       room = fits (sym (length-append c.args.front.now c.args.back.now)) c.loop-here.invariant c.loop-here-test.true (bytes_joined c.args.front.now c.args.back.now
-    (λ i. (c.shared_slice_known-1.given i).fits)
-    (λ i. (c.shared_slice_known-2-1.given i).fits)) (place c) (got c);
+          (λ i. (c.shared_slice_known-1.given i).fits)
+          (λ i. (c.shared_slice_known-2-1.given i).fits)) (place c) (got c);
       same = c.loop-here.invariant.long;
     }
 

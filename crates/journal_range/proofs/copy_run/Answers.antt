@@ -1,8 +1,7 @@
 -- The run is copied to the part of dst from `to` on that is as long. Assumes nothing.
-use mathlib.Core.List.{List}
 use Prim.Native.Nat.{ℕ, ◌+◌, ◌-◌}
 use native.Mathlib.Omega.{arith}
-use lib.ListN.{length, take, drop, length-take, length-drop}
+use lib.ListN.{take, drop, length-take, length-drop}
 use mathlib.Core.Path.{◌≡◌, ap, ◌∙◌}
 use Rattle.words.proofs.Splice.{put_mid_splice}
 use Rattle.journal_range.proofs.copy_run.Goals as goal

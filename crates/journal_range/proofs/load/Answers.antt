@@ -1,6 +1,5 @@
 -- The range that the first pass reads decides the answer; the second pass puts its wire forms in.
 -- Assumes nothing.
-use borrow.Author.Rules.{rules}
 use mathlib.Core.Path.{◌≡◌, sym, ap, ◌∙◌}
 use mathlib.Core.List.{List, ◌++◌}
 use Prim.Native.Nat.{ℕ, ◌%◌}

@@ -1,15 +1,14 @@
 -- The sums so far, with those of what is left, are always those of the whole; a batch has a block at least, so the
 -- loop ends. Assumes nothing.
-use borrow.Author.Rules.{rules}
 use mathlib.Core.Path.{◌≡◌, sym, ap, ◌∙◌}
 use mathlib.Core.List.{List, ◌++◌}
-use Prim.Native.Nat.{ℕ, ◌+◌, ◌-◌}
+use Prim.Native.Nat.{ℕ, ◌+◌}
 use native.Mathlib.Omega.{arith}
 use lib.ListN.{length, length-append, drop}
 use Rattle.journal_range.specs.declared.BatchRead.TheVariants.{Read}
 use Rattle.journal_range.specs.declared.BatchPlace.{BatchPlace}
 use Rattle.journal_range.specs.Payload.{front_batch, batch_answer, range_answer, range_of}
-use Rattle.journal_range.proofs.Totals.{total, Summed, summed_none, summed_end, summed_no, summed_more, Turn}
+use Rattle.journal_range.proofs.Totals.{total, summed_none, summed_end, summed_no, summed_more, Turn}
 use Rattle.journal_range.proofs.Totals.{turn, range_even, range_uneven}
 use Rattle.journal_range.proofs.range_in.Goals as goal
 use Rattle.journal_range.proofs.range_in.Goals.{At-loop-at, In-Read, Start}
@@ -59,10 +58,10 @@ overflow_add-entries c =
 pub overflow_add-bytes : goal.overflow_add-bytes
 overflow_add-bytes c =
     omega (
-  arith,
-  bounds (goal.at.overflow_add-bytes c).In-Read,
-  c.loop-at.invariant,
-)
+      arith,
+      bounds (goal.at.overflow_add-bytes c).In-Read,
+      c.loop-at.invariant,
+    )
 
 pub overflow_add-at : goal.overflow_add-at
 overflow_add-at c = omega (arith, bounds (goal.at.overflow_add-at c).In-Read)

@@ -4,7 +4,6 @@ use mathlib.Core.Path.{sym, ◌∙◌}
 use Prim.Native.Nat.{◌+◌, ◌<◌, ◌≤◌}
 use native.Mathlib.Omega.{arith}
 use Rattle.journal_ring.proofs.Rotation.{advance_near, advance_far}
-use borrow.Author.Rules.{rules}
 use Rattle.journal_ring.proofs.place.Goals as goal
 
 pub returns-then-n-up_to_end : goal.returns-then-n-up_to_end

@@ -6,7 +6,6 @@ use native.Mathlib.Omega.{arith}
 use lib.ListN.{length}
 use Rattle.journal_ring.proofs.Rotation.{advance_near, advance_far}
 use Rattle.journal_ring.proofs.Runs.{put_one_run, put_two_runs}
-use borrow.Author.Rules.{rules}
 use Rattle.journal_ring.proofs.put_bytes.Goals as goal
 
 pub returns-then-n-room : goal.returns-then-n-room
@@ -26,6 +25,6 @@ returns c =
     let far : length l ≤ c.args.at + length f = omega arith in record {
       value = sym (advance_far (length l) c.args.at (length f) far ∙ omega arith);
       ring_new = put_two_runs l c.args.at f c.copy_whole-2.new.dst c.copy_whole-3.new.dst c.requires.0 (omega arith) c.requires.1
-            c.copy_whole-2.ensures c.copy_whole-3.ensures;
+          c.copy_whole-2.ensures c.copy_whole-3.ensures;
       upper_bound = omega arith;
     }

@@ -2,7 +2,6 @@
 -- Assumes nothing.
 use native.Mathlib.Omega.{arith}
 use Rattle.journal_ring.proofs.Taken.{put_done, put_not}
-use borrow.Author.Rules.{rules}
 use Rattle.journal_ring.proofs.put_entry.Goals as goal
 
 pub returns-then-size-start : goal.returns-then-size-start

@@ -2,7 +2,6 @@
 -- Assumes nothing.
 use Rattle.journal_entry.specs.Places.{is_clone_kind}
 use Rattle.journal_ring.proofs.Runs.{write_form}
-use borrow.Author.Rules.{rules}
 use Rattle.journal_ring.proofs.put_form.Goals as goal
 
 pub returns : goal.returns

@@ -1,7 +1,6 @@
 -- The array holds the four bytes of the word.
 -- Assumes nothing.
 use Rattle.words.specs.Words.{word}
-use borrow.Author.Rules.{rules}
 use Rattle.journal_ring.proofs.put_word.Goals as goal
 
 pub returns : goal.returns

@@ -1,6 +1,5 @@
 -- `blocks_for` meets its contract: a quotient rounded up is the quotient, and one more where there is a rest.
 -- Assumes nothing.
-use borrow.Author.Rules.{rules}
 use native.Mathlib.Omega.{arith}
 use Rattle.journalist.specs.Record.{blocks_for}
 use Rattle.journalist.proofs.blocks_for.Goals as goal

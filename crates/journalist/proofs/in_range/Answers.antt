@@ -1,6 +1,5 @@
 -- `in_range` meets its contract: each return is one case of `inRange`, by the test of N that the call made.
 -- Assumes nothing.
-use borrow.Author.Rules.{rules}
 use Rattle.refusals.proofs.Tests.{passed, failed}
 use Rattle.journalist.specs.Record.{in_range}
 use Rattle.journalist.proofs.in_range.Goals as goal

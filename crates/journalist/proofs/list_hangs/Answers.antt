@@ -1,7 +1,6 @@
 -- `list_hangs` meets its contract: each return is a law on numbers.
 -- Assumes nothing.
 use mathlib.Core.Path.{◌∙◌}
-use borrow.Author.Rules.{rules}
 use Rattle.journalist.proofs.Counts.{list_over, list_within}
 use Rattle.journalist.proofs.list_hangs.Goals as goal
 

@@ -1,6 +1,5 @@
 -- `list_weight` meets its contract: each return is one case of `listWeight`, and 8 more than the bytes are past the
 -- largest number only in the second. Assumes nothing.
-use borrow.Author.Rules.{rules}
 use native.Mathlib.Omega.{arith}
 use Rattle.journalist.proofs.Counts.{weight_none, weight_some}
 use Rattle.journalist.proofs.list_weight.Goals as goal
@@ -14,7 +13,7 @@ returns-then-l-gt18446744073709551607 c = omega (arith, weight_some c.args.l c.i
 pub returns : goal.returns
 returns c =
     omega (
-  arith,
-  weight_some c.args.l
-      c.if-l-eq0.false,
-)
+      arith,
+      weight_some c.args.l
+          c.if-l-eq0.false,
+    )

@@ -1,5 +1,4 @@
 -- `digit` meets its contract: it makes the definition's own test. Assumes nothing.
-use borrow.Author.Rules.{rules}
 use borrow.Author.Tests.{lt-ltb, le-ltb}
 use Rattle.listing.specs.Text.{digit}
 use Rattle.listing.proofs.digit.Goals as goal

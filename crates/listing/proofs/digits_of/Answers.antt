@@ -1,9 +1,5 @@
 -- `digits_of` meets its contract: each turn takes the lowest digit away and counts it. Assumes nothing.
-use Prim.Native.Nat.{◌+◌, ◌≤◌}
-use mathlib.Core.Path.{◌≡◌}
 use native.Mathlib.Omega.{arith}
-use lib.ListN.{length}
-use Rattle.listing.specs.Text.{decimal}
 use Rattle.listing.proofs.TextLaws.{decimal_one, decimal_suc, decimal_20}
 use Rattle.listing.proofs.digits_of.Goals as goal
 

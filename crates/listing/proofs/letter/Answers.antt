@@ -1,6 +1,5 @@
 -- `letter` meets its contract: in each arm the kind is known. Assumes nothing.
 use mathlib.Core.Path.{sym, ap}
-use borrow.Author.Rules.{rules}
 use Rattle.journal_entry.specs.Places.{is_clone_kind}
 use Rattle.journal_entry.specs.declared.Kind.{Kind}
 use Rattle.listing.specs.Text.{letter}

@@ -12,7 +12,6 @@ use Rattle.listing.specs.Text.{number_line, entries_word}
 use Rattle.listing.specs.Listing.{lines_of}
 use Rattle.listing.proofs.Answers.{Whole, walk_none, walk_less, walk_whole, listed_none, listed_short}
 use Rattle.listing.proofs.Answers.{listed_text, number_most, lines_long, reads_whole}
-use borrow.Author.Rules.{rules}
 use Rattle.listing.proofs.list_entries.Goals as goal
 use Rattle.listing.proofs.list_entries.Goals.{In-End}
 

@@ -3,7 +3,6 @@ use mathlib.Core.Path.{refl}
 use native.Mathlib.Omega.{arith}
 use Rattle.listing.specs.Text.{refused_word}
 use Rattle.listing.proofs.Answers.{number_most, refusal_short, refusal_text}
-use borrow.Author.Rules.{rules}
 use Rattle.listing.proofs.list_refusal.Goals as goal
 
 pub returns-then-text-lt32 : goal.returns-then-text-lt32

@@ -1,5 +1,4 @@
 -- `put_byte` meets its contract: a byte set at a place is a byte put there. Assumes nothing.
-use borrow.Author.Rules.{rules}
 use Rattle.listing.proofs.Puts.{put_one}
 use Rattle.listing.proofs.put_byte.Goals as goal
 

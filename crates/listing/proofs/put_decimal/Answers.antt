@@ -2,8 +2,7 @@
 use mathlib.Core.Path.{refl, ap}
 use native.Mathlib.Omega.{arith}
 use Prim.Native.Nat.{ℕ, ◌+◌}
-use Rattle.listing.proofs.Spelling.{Spelling, digit_behind, last_fits, spelling_more, spelling_end}
-use borrow.Author.Rules.{rules}
+use Rattle.listing.proofs.Spelling.{digit_behind, last_fits, spelling_more, spelling_end}
 use Rattle.listing.proofs.put_decimal.Goals as goal
 
 pub loop-rest-init : goal.loop-rest-init

@@ -1,9 +1,5 @@
 -- `put_decimal` meets its contract: each turn puts the last digit of what is left. Assumes nothing.
-use mathlib.Core.Path.{refl, ap}
-use native.Mathlib.Omega.{arith}
-use Prim.Native.Nat.{ℕ, ◌+◌}
-use Rattle.listing.proofs.Spelling.{Spelling, digit_behind, last_fits, spelling_more, spelling_end}
-use borrow.Author.Rules.{rules}
+use Rattle.listing.proofs.Spelling.{Spelling}
 use Rattle.listing.proofs.put_decimal.Given as goal
 
 abbrev pub invariant-loop-rest : goal.invariant-loop-rest

@@ -7,9 +7,8 @@ use lib.ListN.{length}
 use Rattle.journal_entry.specs.Places.{entry_at}
 use Rattle.journal_entry.specs.declared.EntryPlace.{EntryPlace}
 use Rattle.journal_entry.specs.declared.EntryRead.TheVariants.{Read}
-use Rattle.listing.proofs.Lining.{Lining, lining_starts, lining_never, lining_more, lining_ends, line_fits}
+use Rattle.listing.proofs.Lining.{lining_starts, lining_never, lining_more, lining_ends, line_fits}
 use Rattle.listing.proofs.Lining.{pieces_in}
-use borrow.Author.Rules.{rules}
 use Rattle.listing.proofs.put_entries.Goals as goal
 use Rattle.listing.proofs.put_entries.Goals.{In-Read}
 

@@ -7,7 +7,6 @@ use Rattle.journal_entry.specs.Entry.{entry_of}
 use Rattle.listing.specs.Text.{piece, entry_line}
 use Rattle.journal_entry.specs.Places.{is_clone_kind}
 use Rattle.listing.proofs.Lines.{line_long, put_line}
-use borrow.Author.Rules.{rules}
 use Rattle.listing.proofs.put_entry.Goals as goal
 use Rattle.listing.proofs.put_entry.Goals.{Start}
 
@@ -26,30 +25,30 @@ put_byte-b-requires c = omega (arith, fits (goal.at.put_byte-b-requires c).Start
 pub put_piece-c-requires : goal.put_piece-c-requires
 put_piece-c-requires c =
     omega (
-  arith,
-  fits (goal.at.put_piece-c-requires c).Start,
-)
+      arith,
+      fits (goal.at.put_piece-c-requires c).Start,
+    )
 
 pub put_byte-d-requires : goal.put_byte-d-requires
 put_byte-d-requires c =
     omega (
-  arith,
-  fits (goal.at.put_byte-d-requires c).Start,
-)
+      arith,
+      fits (goal.at.put_byte-d-requires c).Start,
+    )
 
 pub put_piece-e-requires : goal.put_piece-e-requires
 put_piece-e-requires c =
     omega (
-  arith,
-  fits (goal.at.put_piece-e-requires c).Start,
-)
+      arith,
+      fits (goal.at.put_piece-e-requires c).Start,
+    )
 
 pub put_byte-requires : goal.put_byte-requires
 put_byte-requires c =
     omega (
-  arith,
-  fits (goal.at.put_byte-requires c).Start,
-)
+      arith,
+      fits (goal.at.put_byte-requires c).Start,
+    )
 
 pub returns : goal.returns
 returns c =

@@ -1,10 +1,9 @@
 -- `put_hex` meets its contract: each turn puts the next byte's two digits. Assumes nothing.
-use Prim.Native.Nat.{◌-◌, ◌+◌}
+use Prim.Native.Nat.{◌+◌}
 use native.Mathlib.Omega.{arith}
-use borrow.Author.Rules.{rules}
-use lib.ListN.{length, drop, get_or}
+use lib.ListN.{drop, get_or}
 use Rattle.listing.specs.Text.{hex_byte, hex_bytes}
-use Rattle.listing.proofs.Putting.{Putting, putting_none, putting_more, putting_end, part_fits}
+use Rattle.listing.proofs.Putting.{putting_none, putting_more, putting_end, part_fits}
 use Rattle.listing.proofs.TextLaws.{hex_more, hex_end}
 use Rattle.listing.proofs.put_hex.Goals as goal
 

@@ -1,11 +1,8 @@
 -- `put_hex` meets its contract: each turn puts the next byte's two digits. Assumes nothing.
-use Prim.Native.Nat.{◌-◌, ◌+◌}
-use native.Mathlib.Omega.{arith}
-use borrow.Author.Rules.{rules}
-use lib.ListN.{length, drop, get_or}
-use Rattle.listing.specs.Text.{hex_byte, hex_bytes}
-use Rattle.listing.proofs.Putting.{Putting, putting_none, putting_more, putting_end, part_fits}
-use Rattle.listing.proofs.TextLaws.{hex_more, hex_end}
+use Prim.Native.Nat.{◌-◌}
+use lib.ListN.{length, drop}
+use Rattle.listing.specs.Text.{hex_bytes}
+use Rattle.listing.proofs.Putting.{Putting}
 use Rattle.listing.proofs.put_hex.Given as goal
 
 abbrev pub invariant-loop-i : goal.invariant-loop-i

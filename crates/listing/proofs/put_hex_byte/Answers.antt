@@ -3,7 +3,6 @@ use mathlib.Core.Path.{ap₂}
 use mathlib.Core.List.{[], ◌∷◌}
 use Prim.Native.Nat.{ℕ}
 use native.Mathlib.Omega.{arith}
-use borrow.Author.Rules.{rules}
 use Rattle.listing.proofs.Puts.{put_put, put_is}
 use Rattle.listing.proofs.put_hex_byte.Goals as goal
 

@@ -5,7 +5,6 @@ use Prim.Native.Nat.{◌+◌}
 use lib.ListN.{length}
 use Rattle.listing.specs.Text.{decimal, number_line}
 use Rattle.listing.proofs.Lines.{number_long, put_number_line}
-use borrow.Author.Rules.{rules}
 use Rattle.listing.proofs.put_number.Goals as goal
 use Rattle.listing.proofs.put_number.Goals.{Start}
 

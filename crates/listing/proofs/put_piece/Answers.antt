@@ -4,7 +4,6 @@ use native.Mathlib.Omega.{arith}
 use lib.ListN.{length}
 use Rattle.listing.proofs.Puts.{put_is}
 use Rattle.listing.proofs.TextLaws.{piece_none, piece_some}
-use borrow.Author.Rules.{rules}
 use Rattle.listing.proofs.put_piece.Goals as goal
 
 pub put_byte-requires : goal.put_byte-requires

@@ -6,7 +6,6 @@ use Rattle.journal_entry.specs.Entry.{JournalEntry}
 use Rattle.listing.specs.Text.{entry_line}
 use Rattle.listing.proofs.Puts.{put_is}
 use Rattle.listing.proofs.Lining.{place_line}
-use borrow.Author.Rules.{rules}
 use Rattle.listing.proofs.put_place.Goals as goal
 
 pub put_entry-requires : goal.put_entry-requires

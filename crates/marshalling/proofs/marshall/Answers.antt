@@ -5,7 +5,6 @@ use Prim.Native.Nat.{◌+◌, ◌≤◌}
 use native.Mathlib.Omega.{arith}
 use lib.ListN.{length, length-append}
 use Rattle.marshalling.proofs.Answers.{not_there, no_room, too_short, done}
-use borrow.Author.Rules.{rules}
 use Rattle.marshalling.proofs.marshall.Goals as goal
 
 pub returns-then-len-at : goal.returns-then-len-at

@@ -3,7 +3,6 @@
 use borrow.Author.Tests.{le-leb, lt-leb, eq-eqb, ne_eqb}
 use Rattle.refusals.proofs.Tests.{passed, failed}
 use Rattle.record_words.specs.Words.{words_read, record_at, decode_of}
-use borrow.Author.Rules.{rules}
 use Rattle.record_words.proofs.decode.Goals as goal
 
 pub returns-then-words-lt-WORDS : goal.returns-then-words-lt-WORDS
@@ -19,10 +18,10 @@ pub returns-then-not-side_reads : goal.returns-then-not-side_reads
 unfolding decode_of words_read
 returns-then-not-side_reads c =
     simp (
-  le-leb _ _ c.if-words-lt-WORDS.false,
-  eq-eqb _ _ c.if-words-ne-LAYOUT.false,
-  failed c.side_reads.ensures c.if-not-side_reads.true-raw,
-)
+      le-leb _ _ c.if-words-lt-WORDS.false,
+      eq-eqb _ _ c.if-words-ne-LAYOUT.false,
+      failed c.side_reads.ensures c.if-not-side_reads.true-raw,
+    )
 
 pub returns-then-not-side_reads-2 : goal.returns-then-not-side_reads-2
 unfolding decode_of words_read

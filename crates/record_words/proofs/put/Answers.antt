@@ -1,7 +1,6 @@
 -- `record_words::put` meets its contract: the laws of `fittedTo`, by whether there is room.
 -- Assumes nothing.
 use Rattle.record_words.proofs.OnRecord.{not_given, no_room, room}
-use borrow.Author.Rules.{rules}
 use Rattle.record_words.proofs.put.Goals as goal
 
 pub returns-then-words-lt-WORDS : goal.returns-then-words-lt-WORDS

@@ -4,7 +4,6 @@ use native.Mathlib.Omega.{arith}
 use lib.ListN.{length-set}
 use lib.Seq.{sets-eq}
 use Rattle.record_words.specs.Words.{words_of}
-use borrow.Author.Rules.{rules}
 use Rattle.record_words.proofs.store.Goals as goal
 
 pub bounds-words-1 : goal.bounds-words-1

@@ -1,11 +1,9 @@
 -- `all_zero` meets its contract: the bytes passed are 0, so what is left of the test is the whole of it.
 -- Assumes nothing.
-use mathlib.Core.Path.{◌≡◌, refl, sym, ◌∙◌}
+use mathlib.Core.Path.{◌≡◌}
 use Prim.Native.Nat.{◌-◌, ◌≤◌}
-use borrow.Author.Rules.{rules}
 use lib.ListN.{length, drop}
 use Rattle.words.specs.Lists.{all_zero}
-use Rattle.words.proofs.Zeros.{zero_more, zero_stop, zero_end}
 use Rattle.words.proofs.all_zero.Given as goal
 
 abbrev pub invariant-loop-i : goal.invariant-loop-i

@@ -1,12 +1,9 @@
 -- `words::zero_fill` meets its contract. The invariant: the first i bytes are zero, the rest are as
 -- they were. Assumes nothing.
-use mathlib.Core.Path.{◌≡◌, refl, ◌∙◌}
+use mathlib.Core.Path.{◌≡◌}
 use mathlib.Core.List.{◌++◌}
 use Prim.Native.Nat.{◌≤◌, ◌-◌}
-use native.Mathlib.Omega.{arith}
-use borrow.Author.Fill.{fill_more}
-use lib.ListN.{length, drop, replicate, length-set}
-use Rattle.words.proofs.Zeros.{fill_done}
+use lib.ListN.{length, drop, replicate}
 use Rattle.words.proofs.zero_fill.Given as goal
 
 abbrev pub invariant-loop-i : goal.invariant-loop-i

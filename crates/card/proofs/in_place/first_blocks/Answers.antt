@@ -1,7 +1,6 @@
 -- `card::in_place::first_blocks` meets its contract: a word of two runs is one of both joined. Assumes nothing.
 use Rattle.card.proofs.Formed.{formed_told}
 use Rattle.card.proofs.InPlace.{first_of}
-use borrow.Author.Rules.{rules}
 use Rattle.card.proofs.in_place.first_blocks.Goals as goal
 
 pub live_front-requires : goal.live_front-requires

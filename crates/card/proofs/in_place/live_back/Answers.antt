@@ -6,7 +6,6 @@ use lib.ListN.{length}
 use Rattle.card.specs.Card.{live_front}
 use Rattle.card.proofs.Formed.{Formed, formed_told}
 use Rattle.card.proofs.InPlace.{back_part, live_runs}
-use borrow.Author.Rules.{rules}
 use Rattle.card.proofs.in_place.live_back.Goals as goal
 use Rattle.card.proofs.in_place.live_back.Goals.{After-live_front-front, Start}
 

@@ -2,7 +2,6 @@
 -- Assumes nothing.
 use Rattle.card.proofs.Formed.{formed_told}
 use Rattle.card.proofs.InPlace.{damage_of_lem}
-use borrow.Author.Rules.{rules}
 use Rattle.card.proofs.in_place.live_damage.Goals as goal
 
 pub live_front-requires : goal.live_front-requires

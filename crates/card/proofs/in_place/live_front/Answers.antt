@@ -3,9 +3,8 @@
 use Prim.Native.Nat.{◌+◌, ◌*◌, ◌≤◌}
 use native.Mathlib.Omega.{arith}
 use lib.ListN.{length}
-use Rattle.card.proofs.Formed.{Formed, formed_told}
+use Rattle.card.proofs.Formed.{formed_told}
 use Rattle.card.proofs.InPlace.{front_part, front_rest}
-use borrow.Author.Rules.{rules}
 use Rattle.card.proofs.in_place.live_front.Goals as goal
 use Rattle.card.proofs.in_place.live_front.Goals.{After-live_len}
 

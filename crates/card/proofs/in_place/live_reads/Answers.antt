@@ -1,7 +1,6 @@
 -- `card::in_place::live_reads` meets its contract: two runs read as both joined do. Assumes nothing.
 use Rattle.card.proofs.Formed.{formed_told}
 use Rattle.card.proofs.InPlace.{reads_of}
-use borrow.Author.Rules.{rules}
 use Rattle.card.proofs.in_place.live_reads.Goals as goal
 
 pub live_front-requires : goal.live_front-requires

@@ -15,7 +15,6 @@ use Rattle.card.specs.Superblock.{super_fields}
 use Rattle.card.proofs.Superblock.{length_super_fields}
 use Rattle.card.proofs.Zeros.{all_zero_lem}
 use Rattle.card.proofs.Written.{fields_differ, zeros_differ, agrees_decides}
-use borrow.Author.Rules.{rules}
 use Rattle.card.proofs.super_block.is_superblock.Goals as goal
 
 -- the fields, all of them

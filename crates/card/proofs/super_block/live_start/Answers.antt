@@ -4,7 +4,6 @@ use mathlib.Core.List.{List, append-nil}
 use Prim.Native.Nat.{ℕ}
 use Rattle.journal_entry.specs.Places.{word_at}
 use Rattle.card.specs.Card.{live_start}
-use borrow.Author.Rules.{rules}
 use Rattle.card.proofs.super_block.live_start.Goals as goal
 
 pub returns : goal.returns

@@ -2,7 +2,6 @@
 use mathlib.Core.Path.{refl}
 use Rattle.words.specs.Words.{word}
 use Rattle.card.specs.Superblock.{super_fields}
-use borrow.Author.Rules.{rules}
 use Rattle.card.proofs.super_block.super_fields.Goals as goal
 
 pub returns : goal.returns

@@ -4,7 +4,6 @@ use mathlib.Core.List.{[], ◌∷◌}
 use native.Mathlib.Omega.{arith}
 use lib.ListN.{length-set}
 use Rattle.journal_c.proofs.Answering.{no_room, stored}
-use borrow.Author.Rules.{rules}
 use Rattle.journal_c.proofs.answers.answer_three.Goals as goal
 
 pub returns-then-answer-lt3 : goal.returns-then-answer-lt3

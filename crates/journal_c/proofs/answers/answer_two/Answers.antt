@@ -2,7 +2,6 @@
 -- Assumes nothing.
 use mathlib.Core.List.{[], ◌∷◌}
 use Rattle.journal_c.proofs.Answering.{no_room, stored}
-use borrow.Author.Rules.{rules}
 use Rattle.journal_c.proofs.answers.answer_two.Goals as goal
 
 pub returns-then-answer-lt2 : goal.returns-then-answer-lt2

@@ -8,7 +8,6 @@ use Rattle.journal_image.specs.Strip.{blocks_outcome}
 use Rattle.journal_c.specs.Numbers.{number_words}
 use Rattle.journal_c.proofs.Answering.{also}
 use Rattle.journal_c.proofs.CardCalls.{named_is}
-use borrow.Author.Rules.{rules}
 use Rattle.journal_c.proofs.cards.answer_blocks.Goals as goal
 
 pub overflow_mul-result : goal.overflow_mul-result

@@ -8,7 +8,6 @@ use Rattle.card.proofs.CallLaws.{find_below}
 use Rattle.journal_c.specs.Numbers.{number_words}
 use Rattle.journal_c.proofs.Answering.{also}
 use Rattle.journal_c.proofs.CardCalls.{named_small, short_kept, long_changed, found_keeps}
-use borrow.Author.Rules.{rules}
 use Rattle.journal_c.proofs.cards.journal_card_find.Goals as goal
 
 pub answer_blocks-requires : goal.answer_blocks-requires
@@ -25,7 +24,7 @@ returns-then-answer-lt1 c =
     (c.answer_blocks.ensures.value, c.answer_blocks.ensures.answer_new) in record {
       value = h.0;
       out_new = short_kept number_words (λ a. refl) call s.answer.now (found_output s.n s.card.now s.out.now)
-            s.out.now c.if-answer-lt1.true;
+          s.out.now c.if-answer-lt1.true;
       answer_new = h.1;
     }
 
@@ -43,7 +42,7 @@ returns c =
     (c.answer_blocks-2.ensures.value, c.answer_blocks-2.ensures.answer_new) in record {
       value = h.0;
       out_new = c.find.ensures.out_new
-            ∙ long_changed number_words (λ a. refl) call s.answer.now _ s.out.now
-            c.if-answer-lt1.false (found_keeps s.n s.card.now s.out.now);
+          ∙ long_changed number_words (λ a. refl) call s.answer.now _ s.out.now
+          c.if-answer-lt1.false (found_keeps s.n s.card.now s.out.now);
       answer_new = h.1;
     }

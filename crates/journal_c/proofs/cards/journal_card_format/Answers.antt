@@ -3,7 +3,6 @@
 use mathlib.Core.Path.{sym, ap, ◌∙◌}
 use Rattle.record_words.specs.Calls.{code_of}
 use Rattle.card.specs.Answers.{formatted_outcome}
-use borrow.Author.Rules.{rules}
 use Rattle.journal_c.proofs.cards.journal_card_format.Goals as goal
 
 pub returns-in-Done : goal.returns-in-Done

@@ -10,7 +10,6 @@ use Rattle.card.proofs.StoreLaws.{store_below}
 use Rattle.journal_c.specs.Numbers.{test_words}
 use Rattle.journal_c.proofs.Answering.{also}
 use Rattle.journal_c.proofs.CardCalls.{named_small, short_kept, long_changed, stored_keeps}
-use borrow.Author.Rules.{rules}
 use Rattle.journal_c.proofs.cards.journal_card_store.Goals as goal
 
 pub answer_stored-requires : goal.answer_stored-requires
@@ -27,8 +26,8 @@ returns-then-answer-lt1 c =
     (c.answer_stored.ensures.value, c.answer_stored.ensures.answer_new) in record {
       value = h.0;
       card_new = short_kept test_words (λ a. refl) call s.answer.now
-            (stored s.n s.card.now s.image.now s.made) s.card.now
-            c.if-answer-lt1.true;
+          (stored s.n s.card.now s.image.now s.made) s.card.now
+          c.if-answer-lt1.true;
       answer_new = h.1;
     }
 
@@ -46,7 +45,7 @@ returns c =
     (c.answer_stored-2.ensures.value, c.answer_stored-2.ensures.answer_new) in record {
       value = h.0;
       card_new = c.store.ensures.card_new
-            ∙ long_changed test_words (λ a. refl) call s.answer.now _ s.card.now
-            c.if-answer-lt1.false (stored_keeps s.n s.card.now s.image.now s.made);
+          ∙ long_changed test_words (λ a. refl) call s.answer.now _ s.card.now
+          c.if-answer-lt1.false (stored_keeps s.n s.card.now s.image.now s.made);
       answer_new = h.1;
     }

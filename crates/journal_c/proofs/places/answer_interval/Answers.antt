@@ -6,7 +6,6 @@ use Rattle.disk_layout.specs.declared.IntervalAnswer.{IntervalAnswer}
 use Rattle.disk_layout.specs.Answers.{interval_outcome}
 use Rattle.journal_c.specs.Places.{interval_words}
 use Rattle.journal_c.proofs.Answering.{also}
-use borrow.Author.Rules.{rules}
 use Rattle.journal_c.proofs.places.answer_interval.Goals as goal
 
 pub returns-in-Interval : goal.returns-in-Interval

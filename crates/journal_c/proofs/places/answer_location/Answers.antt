@@ -6,7 +6,6 @@ use Rattle.disk_layout.specs.declared.LocationAnswer.{LocationAnswer}
 use Rattle.disk_layout.specs.Answers.{location_outcome}
 use Rattle.journal_c.specs.Places.{location_words}
 use Rattle.journal_c.proofs.Answering.{also}
-use borrow.Author.Rules.{rules}
 use Rattle.journal_c.proofs.places.answer_location.Goals as goal
 
 pub returns-in-At : goal.returns-in-At

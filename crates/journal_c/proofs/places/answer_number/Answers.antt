@@ -6,7 +6,6 @@ use Rattle.disk_layout.specs.declared.NumberAnswer.{NumberAnswer}
 use Rattle.disk_layout.specs.Answers.{number_outcome}
 use Rattle.journal_c.specs.Numbers.{number_words}
 use Rattle.journal_c.proofs.Answering.{also}
-use borrow.Author.Rules.{rules}
 use Rattle.journal_c.proofs.places.answer_number.Goals as goal
 
 pub returns-in-Number : goal.returns-in-Number

@@ -6,7 +6,6 @@ use Rattle.disk_layout.specs.declared.PartAnswer.{PartAnswer}
 use Rattle.disk_layout.specs.Answers.{part_outcome}
 use Rattle.journal_c.specs.Places.{part_words}
 use Rattle.journal_c.proofs.Answering.{also}
-use borrow.Author.Rules.{rules}
 use Rattle.journal_c.proofs.places.answer_part.Goals as goal
 
 pub returns-in-Part : goal.returns-in-Part

@@ -6,7 +6,6 @@ use Rattle.disk_layout.specs.declared.TestAnswer.{TestAnswer}
 use Rattle.disk_layout.specs.Answers.{test_outcome}
 use Rattle.journal_c.specs.Numbers.{test_words}
 use Rattle.journal_c.proofs.Answering.{also, tested}
-use borrow.Author.Rules.{rules}
 use Rattle.journal_c.proofs.places.answer_test.Goals as goal
 
 pub returns-in-Is : goal.returns-in-Is

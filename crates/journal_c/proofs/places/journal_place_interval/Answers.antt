@@ -3,7 +3,6 @@
 use Rattle.refusals.specs.Outcome.{into}
 use Rattle.journal_c.specs.Places.{interval_words}
 use Rattle.journal_c.proofs.Answering.{also}
-use borrow.Author.Rules.{rules}
 use Rattle.journal_c.proofs.places.journal_place_interval.Goals as goal
 
 pub returns : goal.returns

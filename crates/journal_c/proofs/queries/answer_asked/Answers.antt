@@ -6,7 +6,6 @@ use Rattle.journalist.specs.declared.Asked.{Asked}
 use Rattle.journalist.specs.Answers.{asked_outcome}
 use Rattle.journal_c.specs.Numbers.{test_words}
 use Rattle.journal_c.proofs.Answering.{also, tested}
-use borrow.Author.Rules.{rules}
 use Rattle.journal_c.proofs.queries.answer_asked.Goals as goal
 
 pub returns-in-Refused : goal.returns-in-Refused

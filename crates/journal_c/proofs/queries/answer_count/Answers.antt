@@ -6,7 +6,6 @@ use Rattle.journalist.specs.Answers.{count_outcome}
 use Rattle.journalist.specs.declared.Count.{Count}
 use Rattle.journal_c.specs.Numbers.{number_words}
 use Rattle.journal_c.proofs.Answering.{also}
-use borrow.Author.Rules.{rules}
 use Rattle.journal_c.proofs.queries.answer_count.Goals as goal
 
 pub returns-in-Refused : goal.returns-in-Refused

@@ -10,7 +10,6 @@ use Rattle.replay_cursor.specs.Answers.{top_outcome}
 use Rattle.replay_cursor.specs.declared.TopRead.{TopRead}
 use Rattle.journal_c.specs.Queries.{top_words}
 use Rattle.journal_c.proofs.Answering.{no_room, stored, also}
-use borrow.Author.Rules.{rules}
 use Rattle.journal_c.proofs.queries.answer_top.Goals as goal
 
 pub returns-then-top-lt5 : goal.returns-then-top-lt5

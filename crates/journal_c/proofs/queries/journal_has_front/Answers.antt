@@ -2,7 +2,6 @@
 -- to the output. Assumes nothing.
 use Rattle.journal_c.specs.Numbers.{test_words}
 use Rattle.journal_c.proofs.Answering.{damaged, found}
-use borrow.Author.Rules.{rules}
 use Rattle.journal_c.proofs.queries.journal_has_front.Goals as goal
 
 pub returns-in-Damaged : goal.returns-in-Damaged

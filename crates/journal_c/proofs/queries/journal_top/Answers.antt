@@ -2,7 +2,6 @@
 -- the output. Assumes nothing.
 use Rattle.journal_c.specs.Queries.{top_words}
 use Rattle.journal_c.proofs.Answering.{damaged, found}
-use borrow.Author.Rules.{rules}
 use Rattle.journal_c.proofs.queries.journal_top.Goals as goal
 
 pub returns-in-Damaged : goal.returns-in-Damaged

@@ -1,7 +1,6 @@
 -- `journal_c::journal_open` meets its contract: the journalist's, its record put to the words.
 -- Assumes nothing.
 use Rattle.record_words.proofs.OnRecord.{put_as}
-use borrow.Author.Rules.{rules}
 use Rattle.journal_c.proofs.record.journal_open.Goals as goal
 
 pub returns : goal.returns

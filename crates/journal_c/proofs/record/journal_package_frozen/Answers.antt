@@ -4,7 +4,6 @@ use mathlib.Core.Path.{ap, ◌∙◌}
 use Rattle.refusals.specs.Outcome.{into}
 use Rattle.record_words.proofs.OnRecord.{damaged_lent, changed_lent}
 use Rattle.journal_c.specs.Record.{record_of}
-use borrow.Author.Rules.{rules}
 use Rattle.journal_c.proofs.record.journal_package_frozen.Goals as goal
 
 pub returns-in-Damaged : goal.returns-in-Damaged

@@ -5,7 +5,6 @@ use Rattle.refusals.specs.Outcome.{into}
 use Rattle.journalist.specs.Answers.{packaged_outcome}
 use Rattle.journalist.specs.declared.Packaged.{Packaged}
 use Rattle.journal_c.specs.Record.{record_of}
-use borrow.Author.Rules.{rules}
 use Rattle.journal_c.proofs.record.record_of.Goals as goal
 
 pub returns-in-Done : goal.returns-in-Done

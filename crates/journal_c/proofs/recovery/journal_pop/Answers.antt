@@ -1,7 +1,6 @@
 -- `journal_c::journal_pop` meets its contract: the journalist's, on the record that the words say.
 -- Assumes nothing.
 use Rattle.record_words.proofs.OnRecord.{damaged, changed}
-use borrow.Author.Rules.{rules}
 use Rattle.journal_c.proofs.recovery.journal_pop.Goals as goal
 
 pub returns-in-Damaged : goal.returns-in-Damaged

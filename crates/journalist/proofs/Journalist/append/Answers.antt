@@ -3,7 +3,6 @@
 use mathlib.Core.Bool.{true}
 use mathlib.Core.Path.{◌≡◌, sym, ◌∙◌}
 use native.Mathlib.Omega.{arith}
-use borrow.Author.Rules.{rules}
 use Rattle.refusals.proofs.Tests.{passed, failed}
 use Rattle.journal_entry.specs.Places.{is_clone_kind}
 use Rattle.journal_entry.proofs.Walks.{at_most_one}
@@ -69,8 +68,7 @@ returns-then-second_limit-second c =
     (omega (arith, c.second_limit.ensures, c.if-second_limit-second.true)) in record { result_value = told.0; ring_new = told.1 }
 
 pub region_takes-requires : goal.region_takes-requires
-region_takes-requires c =
-    (
+region_takes-requires c = (
   together (goal.at.region_takes-requires c).Else-ring-self,
   omega (arith, c.second_limit.ensures, c.if-second_limit-second.false, c.if-first-gt-FIRST_LIMIT.false),
 )
@@ -94,9 +92,9 @@ returns-then-self-pending c =
 pub overflow_add-result : goal.overflow_add-result
 overflow_add-result c =
     omega (
-  arith,
-  counted (goal.at.overflow_add-result c).Else-ring-self,
-)
+      arith,
+      counted (goal.at.overflow_add-result c).Else-ring-self,
+    )
 
 pub overflow_add-result-3 : goal.overflow_add-result-3
 overflow_add-result-3 c =

@@ -6,13 +6,11 @@ use mathlib.Core.Path.{◌≡◌, ap₂, ◌∙◌}
 use Prim.Native.Nat.{◌+◌, ◌≤◌, max}
 use native.Mathlib.Omega.{arith}
 use lib.Dec.{leb}
-use borrow.Author.Rules.{rules}
 use borrow.Author.Tests.{leb-true}
 use Rattle.refusals.proofs.Tests.{passed, failed, same}
 use Rattle.replay_cursor.proofs.Counts.{counts_least}
 use Rattle.journalist.specs.Record.{in_range, base_hangs}
 use Rattle.journalist.specs.Recovery.{side_blocks}
-use Rattle.journalist.specs.declared.Journalist.{Journalist}
 use Rattle.journalist.proofs.Counts.{range_facts, start_fact, start_true, side_most, side_hangs_lem, tests}
 use Rattle.journalist.proofs.Counts.{tests_all, tests_fail, test_fails, blocks_fit, ListsHang, lists_fit}
 use Rattle.journalist.proofs.Counts.{lists_told}

@@ -1,7 +1,6 @@
 -- `get_written_journal_len` meets its contract: what `answer_count` gives of the record's test.
 -- Assumes nothing.
 use mathlib.Core.Path.{◌∙◌}
-use borrow.Author.Rules.{rules}
 use Rattle.journalist.proofs.CallLaws.{query_told}
 use Rattle.journalist.proofs.Journalist.get_written_journal_len.Goals as goal
 

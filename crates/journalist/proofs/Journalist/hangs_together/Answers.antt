@@ -1,6 +1,5 @@
 -- `Journalist::hangs_together` meets its contract: the base's test, and behind it the last freeze's. Assumes nothing.
 use mathlib.Core.Path.{sym, ◌∙◌}
-use borrow.Author.Rules.{rules}
 use Rattle.refusals.proofs.Tests.{passed, failed}
 use Rattle.journalist.proofs.Facts.{halves_hang, base_unhung}
 use Rattle.journalist.proofs.Journalist.hangs_together.Goals as goal

@@ -1,7 +1,6 @@
 -- `has_front` meets its contract: what `answer_asked` gives of the record's test and `is_present`.
 -- Assumes nothing.
 use mathlib.Core.Path.{◌∙◌, ap}
-use borrow.Author.Rules.{rules}
 use Rattle.journalist.specs.Calls.{query_call}
 use Rattle.journalist.proofs.CallLaws.{query_told}
 use Rattle.journalist.proofs.Journalist.has_front.Goals as goal

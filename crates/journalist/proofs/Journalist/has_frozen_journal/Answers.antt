@@ -1,7 +1,6 @@
 -- `has_frozen_journal` meets its contract: what `answer_asked` gives of the record's test.
 -- Assumes nothing.
 use mathlib.Core.Path.{◌∙◌}
-use borrow.Author.Rules.{rules}
 use Rattle.journalist.proofs.CallLaws.{query_told}
 use Rattle.journalist.proofs.Journalist.has_frozen_journal.Goals as goal
 

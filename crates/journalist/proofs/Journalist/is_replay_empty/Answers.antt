@@ -1,7 +1,6 @@
 -- `is_replay_empty` meets its contract: what `answer_asked` gives of the record's test.
 -- Assumes nothing.
 use mathlib.Core.Path.{◌∙◌}
-use borrow.Author.Rules.{rules}
 use Rattle.journalist.proofs.CallLaws.{query_told}
 use Rattle.journalist.proofs.Journalist.is_replay_empty.Goals as goal
 

@@ -1,6 +1,5 @@
 -- `open` meets its contract: each return is the row of `openCall` that its tests lead to.
 -- Assumes nothing.
-use borrow.Author.Rules.{rules}
 use borrow.Author.Tests.{le-leb, lt-leb}
 use Rattle.refusals.proofs.Tests.{passed, failed}
 use Rattle.journalist.specs.Record.{in_range}

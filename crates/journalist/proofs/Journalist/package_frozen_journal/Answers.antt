@@ -2,13 +2,9 @@
 -- lead to. Assumes nothing.
 use mathlib.Core.Bool.{true, not}
 use mathlib.Core.Path.{◌≡◌, ap}
-use mathlib.Core.List.{List}
-use Prim.Native.Nat.{ℕ}
 use native.Mathlib.Omega.{arith}
-use borrow.Author.Rules.{rules}
 use borrow.Author.Tests.{lt-leb, eq-eqb, ne_eqb}
 use Rattle.refusals.proofs.Tests.{passed, failed}
-use Rattle.journalist.specs.declared.Journalist.{Journalist}
 use Rattle.journalist.specs.Append.{ring_hangs}
 use Rattle.journalist.specs.Package.{frozen_read, memory_read, frozen_clones, ring_reads}
 use Rattle.journalist.proofs.Counts.{CountsOf}

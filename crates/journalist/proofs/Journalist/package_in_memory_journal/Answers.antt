@@ -2,14 +2,11 @@
 -- tests lead to. Assumes nothing.
 use mathlib.Core.Bool.{true, not}
 use mathlib.Core.Path.{◌≡◌, ap}
-use mathlib.Core.List.{List}
-use Prim.Native.Nat.{ℕ, ◌+◌, ◌*◌, ◌≤◌}
+use Prim.Native.Nat.{◌+◌, ◌*◌, ◌≤◌}
 use native.Mathlib.Omega.{arith}
 use lib.ListN.{length}
-use borrow.Author.Rules.{rules}
 use borrow.Author.Tests.{lt-leb, eq-eqb, ne_eqb}
 use Rattle.refusals.proofs.Tests.{passed, failed}
-use Rattle.journalist.specs.declared.Journalist.{Journalist}
 use Rattle.journalist.specs.Append.{ring_hangs}
 use Rattle.journalist.specs.Changes.{memory_blocks}
 use Rattle.journalist.specs.Package.{frozen_read, memory_read, memory_clones, ring_reads}
@@ -51,9 +48,13 @@ taken c =
       some_entries = c.if-self-eq0.false;
       read =
           (ring_read c.args.self c.args.ring.now c.ring_reads-read.result c.ring_reads-read.ensures _ _ c.in-InLists.is).0;
-      room = omega (arith, (memory_blocks_lem c.args.self c.args.ring.now c.list_weight-weight.result c.blocks_for-more.result
-    (passed c.ring_hangs.ensures c.if-not-ring_hangs.false-raw)
-    c.list_weight-weight.ensures c.blocks_for-more.ensures), c.if-out-more.false);
+      room = omega (
+        arith,
+        (memory_blocks_lem c.args.self c.args.ring.now c.list_weight-weight.result c.blocks_for-more.result
+            (passed c.ring_hangs.ensures c.if-not-ring_hangs.false-raw)
+            c.list_weight-weight.ensures c.blocks_for-more.ensures),
+        c.if-out-more.false,
+      );
     }
 
 pub returns-then-not-ring_hangs : goal.returns-then-not-ring_hangs
@@ -71,15 +72,18 @@ returns-then-self-eq0 c =
 
 pub ring_reads-read-requires : goal.ring_reads-read-requires
 ring_reads-read-requires c =
-    record { start_in_bounds = omega (
-      arith,
-      (ring_told c.args.self c.args.ring.now (hangs (goal.at.ring_reads-read-requires c).Else-not-ring_hangs)).1,
-      ring_counts c.args.self c.args.ring.now (hangs (goal.at.ring_reads-read-requires c).Else-not-ring_hangs),
-    ); entries_in_bounds = omega (
-      arith,
-      (ring_told c.args.self c.args.ring.now (hangs (goal.at.ring_reads-read-requires c).Else-not-ring_hangs)).1,
-      ring_counts c.args.self c.args.ring.now (hangs (goal.at.ring_reads-read-requires c).Else-not-ring_hangs),
-    ) }
+    record {
+      start_in_bounds = omega (
+        arith,
+        (ring_told c.args.self c.args.ring.now (hangs (goal.at.ring_reads-read-requires c).Else-not-ring_hangs)).1,
+        ring_counts c.args.self c.args.ring.now (hangs (goal.at.ring_reads-read-requires c).Else-not-ring_hangs),
+      );
+      entries_in_bounds = omega (
+        arith,
+        (ring_told c.args.self c.args.ring.now (hangs (goal.at.ring_reads-read-requires c).Else-not-ring_hangs)).1,
+        ring_counts c.args.self c.args.ring.now (hangs (goal.at.ring_reads-read-requires c).Else-not-ring_hangs),
+      );
+    }
 
 pub returns-in_default : goal.returns-in_default
 unfolding frozen_read memory_read

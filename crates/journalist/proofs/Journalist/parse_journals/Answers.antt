@@ -10,7 +10,6 @@ use Rattle.refusals.proofs.Tests.{passed, failed}
 use Rattle.journalist.specs.Recovery.{sides_hang}
 use Rattle.journalist.proofs.RecoveryLaws.{SidesHang, sides_facts}
 use Rattle.journalist.proofs.Recovering.{LoadAnswered, record_of, load_uncounted, load_told}
-use borrow.Author.Rules.{rules}
 use Rattle.journalist.proofs.Journalist.parse_journals.Goals as goal
 use Rattle.journalist.proofs.Journalist.parse_journals.Goals.{After-load-read, Else-not-sides_hang}
 

@@ -1,6 +1,5 @@
 -- `ring_hangs` meets its contract: the second test is the answer where the first holds.
 -- Assumes nothing.
-use borrow.Author.Rules.{rules}
 use Rattle.refusals.proofs.Tests.{passed, failed}
 use Rattle.journalist.proofs.Journalist.ring_hangs.Goals as goal
 

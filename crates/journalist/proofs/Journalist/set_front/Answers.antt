@@ -1,6 +1,5 @@
 -- `set_front` meets its contract: the record is made of the blocks that `set_side` gives, and a refusal stays as it is.
 -- Assumes nothing.
-use borrow.Author.Rules.{rules}
 use Rattle.journalist.specs.Recovery.{set_front_call}
 use Rattle.journalist.proofs.Recovering.{set_made, set_refused}
 use Rattle.journalist.proofs.Journalist.set_front.Goals as goal

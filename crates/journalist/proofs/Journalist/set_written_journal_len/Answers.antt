@@ -2,7 +2,6 @@
 -- lead to. Assumes nothing.
 use mathlib.Core.Bool.{true}
 use mathlib.Core.Path.{◌≡◌}
-use borrow.Author.Rules.{rules}
 use borrow.Author.Tests.{le-leb, lt-leb, eq-eqb, ne_eqb}
 use Rattle.refusals.proofs.Tests.{passed, failed}
 use Rattle.journalist.specs.Record.{hangs_together}
@@ -27,27 +26,27 @@ pub returns-then-self-ne0-2 : goal.returns-then-self-ne0-2
 unfolding set_written_journal_len_call
 returns-then-self-ne0-2 c =
     simp (
-  hangs (goal.at.returns-then-self-ne0-2 c).Else-not-hangs_together,
-  eq-eqb _ _ c.if-self-ne0.false,
-  ne_eqb _ _ c.if-self-ne0-2.true,
-)
+      hangs (goal.at.returns-then-self-ne0-2 c).Else-not-hangs_together,
+      eq-eqb _ _ c.if-self-ne0.false,
+      ne_eqb _ _ c.if-self-ne0-2.true,
+    )
 
 pub returns-then-self-len : goal.returns-then-self-len
 unfolding set_written_journal_len_call
 returns-then-self-len c =
     simp (
-  hangs (goal.at.returns-then-self-len c).Else-not-hangs_together,
-  eq-eqb _ _ c.if-self-ne0.false,
-  eq-eqb _ _ c.if-self-ne0-2.false,
-  lt-leb _ _ c.if-self-len.true,
-)
+      hangs (goal.at.returns-then-self-len c).Else-not-hangs_together,
+      eq-eqb _ _ c.if-self-ne0.false,
+      eq-eqb _ _ c.if-self-ne0-2.false,
+      lt-leb _ _ c.if-self-len.true,
+    )
 
 pub returns : goal.returns
 unfolding set_written_journal_len_call
 returns c =
     simp (
-  hangs (goal.at.returns c).Else-not-hangs_together,
-  eq-eqb _ _ c.if-self-ne0.false,
-  eq-eqb _ _ c.if-self-ne0-2.false,
-  le-leb _ _ c.if-self-len.false,
-)
+      hangs (goal.at.returns c).Else-not-hangs_together,
+      eq-eqb _ _ c.if-self-ne0.false,
+      eq-eqb _ _ c.if-self-ne0-2.false,
+      le-leb _ _ c.if-self-len.false,
+    )

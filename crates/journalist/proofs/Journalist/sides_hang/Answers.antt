@@ -1,6 +1,5 @@
 -- `sides_hang` meets its contract: the tests of `sidesHang` one by one.
 -- Assumes nothing.
-use borrow.Author.Rules.{rules}
 use Rattle.refusals.proofs.Tests.{passed, failed}
 use Rattle.journalist.proofs.Recovering.{sides_uncounted, sides_front_short, sides_back}
 use Rattle.journalist.proofs.Journalist.sides_hang.Goals as goal

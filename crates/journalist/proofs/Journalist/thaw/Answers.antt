@@ -1,7 +1,6 @@
 -- `Journalist::thaw` meets its contract: each return is the row of `thawCall` that its tests lead to. Assumes nothing.
 use mathlib.Core.Bool.{true}
 use mathlib.Core.Path.{◌≡◌}
-use borrow.Author.Rules.{rules}
 use borrow.Author.Tests.{eq-eqb, ne_eqb}
 use Rattle.refusals.proofs.Tests.{passed, failed}
 use Rattle.journalist.specs.Record.{hangs_together}

@@ -1,7 +1,6 @@
 -- `Journalist::thawed` meets its contract: what is remembered is frozen, and the lists together lie in the ring.
 -- Assumes nothing.
 use native.Mathlib.Omega.{arith}
-use borrow.Author.Rules.{rules}
 use Rattle.journalist.proofs.Counts.{CountsOf, base_facts}
 use Rattle.journalist.proofs.Journalist.thawed.Goals as goal
 use Rattle.journalist.proofs.Journalist.thawed.Goals.{Start}

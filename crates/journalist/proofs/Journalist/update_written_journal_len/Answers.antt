@@ -2,7 +2,6 @@
 -- tests lead to. Assumes nothing.
 use mathlib.Core.Bool.{true}
 use mathlib.Core.Path.{◌≡◌}
-use borrow.Author.Rules.{rules}
 use borrow.Author.Tests.{le-leb, lt-leb}
 use Rattle.refusals.proofs.Tests.{passed, failed}
 use Rattle.journalist.specs.Record.{hangs_together}

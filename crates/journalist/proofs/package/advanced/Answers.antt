@@ -2,7 +2,6 @@
 -- Assumes nothing.
 use mathlib.Core.Path.{sym}
 use native.Mathlib.Omega.{arith}
-use borrow.Author.Rules.{rules}
 use Rattle.journal_ring.proofs.Rotation.{advance_near, advance_far}
 use Rattle.journalist.proofs.package.advanced.Goals as goal
 

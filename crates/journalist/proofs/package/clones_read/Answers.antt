@@ -1,7 +1,6 @@
 -- `clones_read` meets its contract: entries that end exactly at `end` are those that the bytes up to there read as.
 -- Assumes nothing.
 use native.Mathlib.Omega.{arith}
-use borrow.Author.Rules.{rules}
 use Rattle.journalist.proofs.Packaging.{walk_ends, walk_short, walk_stops}
 use Rattle.journalist.proofs.package.clones_read.Goals as goal
 

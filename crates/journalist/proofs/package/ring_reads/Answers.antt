@@ -4,7 +4,6 @@ use mathlib.Core.List.{List}
 use mathlib.Core.Option.{Option}
 use Prim.Native.Nat.{◌+◌}
 use native.Mathlib.Omega.{arith}
-use borrow.Author.Rules.{rules}
 use Rattle.journal_entry.specs.Entry.{JournalEntry}
 use Rattle.journal_entry.specs.Parse.{read_exactly}
 use Rattle.journal_entry.specs.Places.{part}

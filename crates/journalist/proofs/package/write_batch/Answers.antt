@@ -1,7 +1,6 @@
 -- `write_batch` meets its contract: all of `marshall`'s tests hold, so it writes the batch.
 -- Assumes nothing.
 use native.Mathlib.Omega.{arith}
-use borrow.Author.Rules.{rules}
 use Rattle.journalist.proofs.Packaging.{batch_written}
 use Rattle.journalist.proofs.package.write_batch.Goals as goal
 

@@ -2,7 +2,6 @@
 -- Assumes nothing.
 use mathlib.Core.Path.{ap, ◌∙◌}
 use lib.ListN.{length, length-drop}
-use borrow.Author.Rules.{rules}
 use Rattle.marshalling.proofs.Filling.{after_least}
 use Rattle.marshalling.proofs.fill.after.Goals as goal
 

@@ -7,7 +7,6 @@ use lib.ListN.{length, take, drop, length-take, length-drop}
 use Rattle.words.proofs.Splice.{put_mid_front}
 use Rattle.marshalling.proofs.Filling.{run_first, run_second}
 use Rattle.marshalling.proofs.Runs.{run_in_first, run_in_second}
-use borrow.Author.Rules.{rules}
 use Rattle.marshalling.proofs.fill.copy_run.Goals as goal
 
 pub returns-then-i-a : goal.returns-then-i-a

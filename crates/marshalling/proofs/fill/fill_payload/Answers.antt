@@ -2,12 +2,10 @@
 -- goes on. Assumes nothing.
 use mathlib.Core.Path.{◌∙◌}
 use mathlib.Core.List.{◌++◌}
-use Prim.Native.Nat.{◌+◌}
 use native.Mathlib.Omega.{arith}
 use lib.ListN.{take, drop}
 use Rattle.words.proofs.Splice.{put_mid_front}
 use Rattle.marshalling.proofs.Filling.{block_on, payload_filled}
-use borrow.Author.Rules.{rules}
 use Rattle.marshalling.proofs.fill.fill_payload.Goals as goal
 
 pub returns : goal.returns

@@ -6,7 +6,7 @@ use Prim.Native.Nat.{◌+◌, ◌-◌, ◌≤◌, ◌<◌, min}
 use native.Mathlib.Nat.{add_assoc}
 use native.Mathlib.Omega.{arith}
 use borrow.Author.Rules.{rules}
-use lib.ListN.{length, take, drop, length-append}
+use lib.ListN.{length, length-append}
 use Rattle.marshalling.specs.Runs.{to_block_end, Takes}
 use Rattle.marshalling.proofs.Filling.{runs_more, runs_done}
 use Rattle.marshalling.proofs.Runs.{run_within, takes_none, takes_then, takes_one, takes_block}

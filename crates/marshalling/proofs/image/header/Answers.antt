@@ -2,7 +2,6 @@
 -- Assumes nothing.
 use mathlib.Core.Path.{refl}
 use Rattle.words.specs.Words.{word}
-use borrow.Author.Rules.{rules}
 use Rattle.marshalling.proofs.image.header.Goals as goal
 
 pub returns : goal.returns

@@ -2,7 +2,6 @@
 -- Assumes nothing.
 use mathlib.Core.List.{◌++◌}
 use lib.ListN.{take, drop}
-use native.Mathlib.Omega.{arith}
 use Rattle.words.proofs.Splice.{put_mid_front}
 use Rattle.marshalling.proofs.Writing.{block_written}
 use borrow.Author.Rules.{rules}

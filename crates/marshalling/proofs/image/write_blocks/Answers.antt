@@ -2,14 +2,11 @@
 -- behind them is as it was, and their bytes of the list took as many runs as were made. Assumes nothing.
 use mathlib.Core.Path.{◌≡◌, refl}
 use mathlib.Core.List.{◌++◌}
-use Prim.Native.Nat.{◌+◌, ◌-◌, ◌*◌, ◌≤◌}
+use Prim.Native.Nat.{◌+◌, ◌-◌, ◌*◌}
 use native.Mathlib.Omega.{arith}
 use borrow.Author.Rules.{rules}
-use lib.ListN.{length, take, drop}
-use Rattle.marshalling.specs.Fill.{padded}
-use Rattle.marshalling.specs.Runs.{Takes}
+use lib.ListN.{take, drop}
 use Rattle.marshalling.specs.Marshall.{with_checksums}
-use Rattle.marshalling.proofs.Images.{image_to}
 use Rattle.marshalling.proofs.Writing.{image_more}
 use Rattle.marshalling.proofs.Runs.{takes_none, takes_then}
 use Rattle.marshalling.proofs.image.write_blocks.Goals as goal

@@ -8,7 +8,6 @@ use lib.ListN.{length, take, drop, length-append, length-drop}
 use lib.Seq.{length-take-le}
 use Rattle.marshalling.proofs.Writing.{image_written}
 use Rattle.marshalling.proofs.Runs.{takes_all}
-use borrow.Author.Rules.{rules}
 use Rattle.marshalling.proofs.image.write_image.Goals as goal
 
 pub returns : goal.returns

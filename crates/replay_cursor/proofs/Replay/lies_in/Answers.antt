@@ -1,6 +1,5 @@
 -- `lies_in` meets its contract: each return is a law on the numbers that are compared.
 -- Assumes nothing.
-use borrow.Author.Rules.{rules}
 use Rattle.refusals.proofs.Tests.{passed, failed}
 use Rattle.replay_cursor.proofs.Rows.{lies_uncounted, lies_short, lies_room}
 use Rattle.replay_cursor.proofs.Replay.lies_in.Goals as goal

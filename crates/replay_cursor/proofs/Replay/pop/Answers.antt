@@ -1,7 +1,6 @@
 -- `pop` meets its contract: the rest behind the entry that was found, if its counts hang together, or the refusal
 -- of the tests. Assumes nothing.
 use native.Mathlib.Omega.{arith}
-use borrow.Author.Rules.{rules}
 use Rattle.refusals.proofs.Tests.{passed, failed}
 use Rattle.replay_cursor.proofs.Rows.{Found, found, not_found, Numbers, found_numbers, pop_found, pop_unhung}
 use Rattle.replay_cursor.proofs.Rows.{pop_refused}

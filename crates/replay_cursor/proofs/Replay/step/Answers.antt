@@ -1,7 +1,6 @@
 -- `step` meets its contract: each return is what the pop's outcome makes of the answer and of the cursor.
 -- Assumes nothing.
 use mathlib.Core.Path.{sym, ap, ◌∙◌}
-use borrow.Author.Rules.{rules}
 use Rattle.replay_cursor.specs.Answers.{popped_outcome}
 use Rattle.replay_cursor.specs.Lent.{moves, cursor_after}
 use Rattle.replay_cursor.proofs.Replay.step.Goals as goal

@@ -1,6 +1,5 @@
 -- `top` meets its contract: the entry that was found as its places, or the refusal of the tests.
 -- Assumes nothing.
-use borrow.Author.Rules.{rules}
 use Rattle.replay_cursor.proofs.Rows.{found, not_found, top_found, top_refused}
 use Rattle.replay_cursor.proofs.Replay.top.Goals as goal
 

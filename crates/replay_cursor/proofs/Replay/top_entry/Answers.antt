@@ -3,7 +3,6 @@
 use mathlib.Core.Bool.{true, not}
 use mathlib.Core.Path.{◌≡◌, sym, ap}
 use native.Mathlib.Omega.{arith}
-use borrow.Author.Rules.{rules}
 use borrow.Author.Tests.{eq-eqb}
 use Rattle.refusals.proofs.Tests.{passed, failed}
 use Rattle.replay_cursor.specs.Cursor.{lies_in}
