@@ -17,7 +17,8 @@ import sys
 WORD = r"[^\s(){}\[\];,.\"«»]+"
 TOKEN = re.compile(WORD)
 HEAD = re.compile(
-    r"(?m)^( *)(?:(?:pub|abbrev|unfoldable|data|record|opaque)\s+)*(%s)((?: \{[^{}\n]*\}| \([^()\n]*(?:\([^()]*\)[^()\n]*)*\))*) :(?= |$)" % WORD)
+    r"(?m)^( *)(?:(?:pub|abbrev|unfoldable|data|record|opaque)\s+)*(%s)"
+    r"((?: \{[^{}\n]*\}| \([^()\n]*(?:\([^()]*\)[^()\n]*)*\))*) :(?= |$)" % WORD)
 # Declared in upper case, as their source has them, though they are no types: functions and constructors.
 VALUES = set("""ChecksumChecksOut ContiguousJournalInterval InCyclicRange JournalBackInterval JournalBlockOfByteSeq
 JournalEndAddr JournalFrontInterval JournalIntervalOfLocation JournalPoint JournalRangeLocation JournalRangeOfByteSeq

@@ -40,7 +40,8 @@ module _ (n : ℕ) (card : List ℕ) where
   unfolding formed
   formed_short h = rw h
 
-  module _ (sized : card_sized n card ≡ true) (start len : ℕ) (s : start ≡ live_start card) (l : len ≡ live_len card) where
+  module _ (sized : card_sized n card ≡ true) (start len : ℕ) (s : start ≡ live_start card)
+      (l : len ≡ live_len card) where
     pub formed_other : same_bytes (take 4096 card) (superblock start len) ≡ false → false ≡ formed n card
     unfolding formed
     formed_other h = rw (sized, ← s, ← l, h)

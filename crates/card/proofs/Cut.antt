@@ -104,7 +104,8 @@ module _ (n : ℕ) (card image : List ℕ) (old new : List JournalEntry) (v : Li
       let el : live_len last ≡ len + k = rewritten_len d start (len + k) h (omega arith) in
       let f : Formed n last = rewritten_formed d start (len + k) h n size most si room in
       let bytes : 4096 * (len + k) ≡ 4096 * len + length image = omega arith in
-      let img : cyclic_slice (journal_part last) (4096 * live_start last) (4096 * live_len last) ≡ live_image card ++ image =
+      let img : cyclic_slice (journal_part last) (4096 * live_start last) (4096 * live_len last)
+      ≡ live_image card ++ image =
       rw (es, el, rewritten_journal d start (len + k) h, bytes) (put_joined n card image is room') in
       let ll : length (live_image card) ≡ 4096 * len = length_live n card is in
       let p = without_checksums len (live_image card) in

@@ -44,7 +44,8 @@ module _ (n : ℕ) (card : List ℕ) where
       rw (eq-eqb _ _ f.size, same, lt-ltb _ _ f.start_in, le-leb _ _ f.len_in)
 
 -- the named interval stands in block 0
-word_in_front : (card : List ℕ) (i : ℕ) → 4096 ≤ length card → i + 4 ≤ 4096 → word_at card i ≡ word_at (take 4096 card) i
+word_in_front : (card : List ℕ) (i : ℕ) → 4096 ≤ length card → i + 4 ≤ 4096
+    → word_at card i ≡ word_at (take 4096 card) i
 word_in_front card i h f =
     let l : length (take 4096 card) ≡ 4096 = length-take-le 4096 card h in
     ap (λ (c : List ℕ). word_at c i) (sym (take-append-drop 4096 card))

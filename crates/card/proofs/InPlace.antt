@@ -45,7 +45,8 @@ module _ (card : List ℕ) (start len : ℕ) (s : start ≡ live_start card) (l 
   front_rest h =
       tail (8192 + 4096 * start) card
       ∙ ap (λ (j : ℕ). drop j card) at_start
-      ∙ sym (take_all (4096 * live_len card) (drop (journal_point (live_start card)) card) (rw length-drop (omega arith)))
+      ∙ sym (take_all (4096 * live_len card) (drop (journal_point (live_start card)) card)
+      (rw length-drop (omega arith)))
 
 pub back_part : (card front : List ℕ) (len : ℕ) → front ≡ live_front card → len ≡ live_len card
     → take (8192 + (4096 * len - length front) - 8192) (drop 8192 card) ≡ live_back card
@@ -148,7 +149,8 @@ module _ (n : ℕ) (card : List ℕ) (f : Formed n card) where
 
     payload_of_lem : image_payload (front ++ back) ≡ live_payload card
     unfolding live_payload
-    payload_of_lem = payload_is (front ++ back) (live_len card) joined_count ∙ ap (without_checksums (live_len card)) joined
+    payload_of_lem =
+        payload_is (front ++ back) (live_len card) joined_count ∙ ap (without_checksums (live_len card)) joined
 
     pub reads_of : (t : Bool) → t ≡ is_read (range_of (image_payload (front ++ back)))
         → t ≡ is_read (parse_payload (live_payload card))

@@ -72,7 +72,8 @@ module _ (n : ℕ) (card image : List ℕ) (made : ℕ) where
       store_11 h = rw (range, is, ne_eqb _ _ h)
 
       module _ (whole : length image % 4096 ≡ 0) where
-        pub store_12 : (block : ℕ) → lowest_damaged (image_blocks image) image ≡ some block → refuses_block 12 block ≡ call
+        pub store_12 : (block : ℕ) → lowest_damaged (image_blocks image) image ≡ some block
+            → refuses_block 12 block ≡ call
         unfolding store_call
         store_12 block h = rw (range, is, eq-eqb _ _ whole, h)
 
@@ -164,7 +165,8 @@ module _ (n : ℕ) (card image : List ℕ) (made : ℕ) where
         }
 
     pub store_next : (after : List ℕ)
-        → after ≡ cond (ltb made k) (with_block n card image made) (rewritten card (live_start card) (live_len card + k))
+        → after ≡ cond (ltb made k) (with_block n card image made)
+        (rewritten card (live_start card) (live_len card + k))
         → Comes (gives true) after
     unfolding stored with_store
     store_next after is = (e, rw (← e, store_told.left) is)

@@ -136,7 +136,8 @@ module _ (n : ℕ) (card : List ℕ) where
         store_rows (blocks_in_range n) (formed n card) (eqb (length image % 4096) 0) (lowest_damaged k image)
         (parse_payload (without_checksums k image))
         (store_left k made) (leb (live_len card + k) n)
-        (cond (ltb made k) (with_block n card image made) (rewritten card (live_start card) (live_len card + k))) card kept
+        (cond (ltb made k) (with_block n card image made) (rewritten card (live_start card) (live_len card + k)))
+        card kept
         (λ f w m e. put (formed_told n card f) (eqb-true _ _ w) (leb-true _ _ m) e)
 
     -- by which store

@@ -125,5 +125,6 @@ module _ (b : List ℕ) (start len : ℕ) (h : length b ≡ 4096) where
       ∙ ap₂ ◌++◌ (same_equal (take 32 b) (checksum_bytes P) e) p in
       rw (← whole) (same_refl b))
       (λ e. let front : take 32 b ≡ checksum_bytes P =
-      ap (take 32) (same_equal b (checksum_bytes P ++ P) e) ∙ take_at (checksum_bytes P) P 32 (length_checksum_bytes P) in
+      ap (take 32) (same_equal b (checksum_bytes P ++ P) e)
+      ∙ take_at (checksum_bytes P) P 32 (length_checksum_bytes P) in
       rw front (same_refl (checksum_bytes P)))

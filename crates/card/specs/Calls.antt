@@ -1,6 +1,7 @@
 -- What each call on a card comes to, and the card's bytes after it: document 02, paper 3. Assumes nothing.
 -- (18 and 19 are that paper's numbers, the others document 01's.)
-use Rattle.std.specs.Prelude.{Bool, true, false, cond, ◌&&◌, List, ℕ, ◌+◌, ◌-◌, ◌*◌, ◌/◌, ◌%◌, leb, ltb, eqb, length, take, drop}
+use Rattle.std.specs.Prelude.{Bool, true, false, cond, ◌&&◌, List, ℕ, ◌+◌, ◌-◌, ◌*◌, ◌/◌, ◌%◌, leb, ltb, eqb, length}
+use Rattle.std.specs.Prelude.{take, drop}
 use Rattle.words.specs.Lists.{splice}
 use Rattle.refusals.specs.Outcome.{Outcome, gives, require◌else◌then◌, given◌else◌then◌, undamaged◌then◌, bytes_after}
 use Rattle.disk_layout.specs.DiskLayout.{blocks_in_range, journal_point}
@@ -63,7 +64,8 @@ store_call n card image made =
 -- block `made` of the image, at block (start + length + made) mod N of the journal
 unfoldable pub with_block : (n : ℕ) (card image : List ℕ) (made : ℕ) → List ℕ
 with_block n card image made =
-    splice card (journal_point (advance n (live_start card) (live_len card + made))) (take 4096 (drop (4096 * made) image))
+    splice card (journal_point (advance n (live_start card) (live_len card + made)))
+    (take 4096 (drop (4096 * made) image))
 
 -- the next store: "puts it, first block first, cyclically behind the live interval, and only then rewrites block 0"
 unfoldable pub with_store : (n : ℕ) (card image : List ℕ) (made : ℕ) → List ℕ

@@ -31,7 +31,8 @@ after_calls n card image (suc m) = stored n (after_calls n card image m) image m
 -- at a cut behind `calls` of them: the call is accepted, and "what is found at a cut is the old list before the
 -- last store, and the old list followed by the image's after it"
 pub record AtCut (n : ℕ) (card image : List ℕ) (old new : List JournalEntry) (calls : ℕ) : Type 0 where
-  pub accepted : store_call n (after_calls n card image calls) image calls ≡ gives (store_left (image_blocks image) calls)
+  pub accepted : store_call n (after_calls n card image calls) image calls
+      ≡ gives (store_left (image_blocks image) calls)
   pub found : Finds n (after_calls n card image calls) (cond (leb calls (image_blocks image)) old (old ++ new))
   -- the live interval is longer by the image's blocks from the last store on
   pub start : live_start (after_calls n card image calls) ≡ live_start card

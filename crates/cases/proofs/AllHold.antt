@@ -15,7 +15,8 @@ use Rattle.journal_entry.specs.Parse.{read_bytes, read_word, parse_entry_at, rea
 use Rattle.journal_range.specs.Range.{JournalRange, parse_header, parse_journal_range_of_bytes_at, parse_from_at}
 use Rattle.journal_range.specs.Range.{parse_journal_range_at}
 use Rattle.journal_range.specs.Payload.{payload, parse_payload}
-use Rattle.disk_layout.specs.JournalInterval.{valid_journal_interval, contiguous_journal_interval, journal_front_interval}
+use Rattle.disk_layout.specs.JournalInterval.{valid_journal_interval, contiguous_journal_interval}
+use Rattle.disk_layout.specs.JournalInterval.{journal_front_interval}
 use Rattle.disk_layout.specs.JournalInterval.{journal_back_interval, next_start_point}
 use Rattle.disk_layout.specs.Calls.{front_call, back_call, next_start_call, location_call}
 use Rattle.journalist.specs.declared.Journalist.{Journalist}
@@ -72,10 +73,13 @@ infixr 10 ◌also◌
 ◌also◌ a b = (a, b)
 
 pub all_hold : AllHold cases
-unfolding word wire wires within_limits_at read_bytes read_word parse_entry_at read_entries_at parse_entries_at parse_header
-    parse_journal_range_of_bytes_at parse_from_at parse_journal_range_at parse_payload payload appended open_call in_range append_call
+unfolding word wire wires within_limits_at read_bytes read_word parse_entry_at read_entries_at parse_entries_at
+    parse_header
+    parse_journal_range_of_bytes_at parse_from_at parse_journal_range_at parse_payload payload appended open_call
+    in_range append_call
     can_append ring_takes list_weight appended_record front_call back_call next_start_call
-    location_call valid_journal_interval contiguous_journal_interval journal_front_interval journal_back_interval next_start_point
+    location_call valid_journal_interval contiguous_journal_interval journal_front_interval journal_back_interval
+    next_start_point
 all_hold =
     refl
     also refl

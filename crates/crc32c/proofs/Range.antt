@@ -29,7 +29,8 @@ fold_lt (b ∷ bs) bytes c h =
 
 pub crc_lt : (bs : List ℕ) → Bytes bs → crc32c_of bs < 2 ^ 32
 unfolding crc32c_of
-crc_lt bs bytes = xor_lt 32 (foldl step_byte all_ones bs) all_ones (fold_lt bs bytes all_ones (omega arith)) (omega arith)
+crc_lt bs bytes =
+    xor_lt 32 (foldl step_byte all_ones bs) all_ones (fold_lt bs bytes all_ones (omega arith)) (omega arith)
 
 pub length_checksum_bytes : (bs : List ℕ) → length (checksum_bytes bs) ≡ 32
 unfolding checksum_bytes

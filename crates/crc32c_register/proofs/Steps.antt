@@ -58,7 +58,8 @@ digits : (w x : ℕ) → x ≡ bit_xor (x / 2 ^ w * 2 ^ w) (x % 2 ^ w)
 digits w x = sym (xor_shifted (x / 2 ^ w) w (x % 2 ^ w) (mod-lt x (pow_pos w)) ∙ split x w)
 
 -- THE TABLES' RULE: the low digit takes w + m steps, as its table says, and the others m
-pub step_bits_digit : (w m x : ℕ) → step_bits (w + m) x ≡ bit_xor (step_bits (w + m) (x % 2 ^ w)) (step_bits m (x / 2 ^ w))
+pub step_bits_digit : (w m x : ℕ)
+    → step_bits (w + m) x ≡ bit_xor (step_bits (w + m) (x % 2 ^ w)) (step_bits m (x / 2 ^ w))
 step_bits_digit w m x =
     ap (step_bits (w + m)) (digits w x)
     ∙ step_bits_xor (w + m) (x / 2 ^ w * 2 ^ w) (x % 2 ^ w)

@@ -20,7 +20,7 @@ steps_end (suc n) r h = absurd (omega arith)
 
 -- ---- an arm of a table
 
--- `stepBits` that computes wherever it stands, to test an entry
+-- `step_bits` that computes wherever it stands, to test an entry
 abbrev pub stepped : (n register : ℕ) → ℕ
 stepped zero register = register
 stepped (suc n) register = stepped n (bit_xor (register % 2 * polynomial) (register / 2))

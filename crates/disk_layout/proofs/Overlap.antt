@@ -35,7 +35,8 @@ some_block s = go (eqb s 0) refl
 
 -- an empty interval strictly inside another overlaps it, save at block 0, where it never does
 pub empty_overlap : (n s : ℕ) (b : JournalInterval) → s < n → valid_journal_interval n b ≡ true →
-    journal_cyclic_interval_overlap n (interval s 0) b ≡ (not (eqb s 0) && (in_cyclic_range n s b && not (eqb s b.start)))
+    journal_cyclic_interval_overlap n (interval s 0) b
+    ≡ (not (eqb s 0) && (in_cyclic_range n s b && not (eqb s b.start)))
 unfolding journal_cyclic_interval_overlap wrapped_overlap journal_interval_overlap in_cyclic_range
 empty_overlap n s b h v = go (ltb n (b.start + b.len)) (ltb b.start s) (eqb s b.start) refl refl refl
   where

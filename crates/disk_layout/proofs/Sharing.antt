@@ -13,7 +13,7 @@ use Rattle.disk_layout.specs.JournalInterval.{journal_cyclic_interval_overlap, s
 use Rattle.refusals.proofs.Tests.{both, either, same, never, impossible}
 use Rattle.disk_layout.proofs.Intervals.{BothValid, both_facts, in_told, in_here, in_on}
 
--- where `someBelow` says so, there is a number below k that passes the test,
+-- where `some_below` says so, there is a number below k that passes the test,
 below_told : (k : ℕ) (test : ℕ → Bool) → some_below k test ≡ true → (i : ℕ) × (i < k) × (test i ≡ true)
 unfolding some_below
 below_told zero test h = impossible cc

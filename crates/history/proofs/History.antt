@@ -13,7 +13,8 @@ use Rattle.journalist.specs.Record.{hangs_together}
 use Rattle.journalist.specs.Package.{frozen_read, memory_read, ring_reads}
 use Rattle.journalist.proofs.CallLaws.{thaw_exactly}
 use Rattle.history.specs.Calls.{Call, append, freeze, thaw, package_frozen_journal, package_in_memory_journal}
-use Rattle.history.specs.Calls.{set_written_journal_len, update_written_journal_len, set_front, set_back, parse_journals}
+use Rattle.history.specs.Calls.{set_written_journal_len, update_written_journal_len, set_front, set_back}
+use Rattle.history.specs.Calls.{parse_journals}
 use Rattle.history.specs.Calls.{replay_journal_top, replay_journal_pop, query, told_of, step}
 use Rattle.history.specs.History.{World, opened, following, run, History}
 use Rattle.history.proofs.Invariant.{Invariant, at_opening}
@@ -54,7 +55,7 @@ history n r j ring cs o long =
     holds l = after_run n (opened j ring) l (at_opening n r j ring o long)
 
 -- Beside the rule: in a history no call is refused with 2 for the record or the ring, nor with 15. (The rule alone
--- would hold of a `hangsTogether` that refused every record.)
+-- would hold of a `hangs_together` that refused every record.)
 pub record InOrder (w : World) : Type 0 where
   pub hangs : hangs_together w.journalist ≡ true
   pub ring_long : length w.ring ≡ w.journalist.ring

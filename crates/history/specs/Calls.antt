@@ -5,7 +5,8 @@ use Rattle.std.proofs.Math.Option.{Option, none, some}
 use Rattle.refusals.specs.Outcome.{Outcome, gives, refuses, refuses_block, into}
 use Rattle.journal_entry.specs.Entry.{JournalEntry}
 use Rattle.journalist.specs.declared.Journalist.{Journalist}
-use Rattle.journalist.specs.Calls.{freeze_call, thaw_call, set_written_journal_len_call, update_written_journal_len_call}
+use Rattle.journalist.specs.Calls.{freeze_call, thaw_call, set_written_journal_len_call}
+use Rattle.journalist.specs.Calls.{update_written_journal_len_call}
 use Rattle.journalist.specs.Calls.{query_call, has_frozen_journal, has_in_memory_journal, is_replay_empty, present}
 use Rattle.journalist.specs.Append.{append_call, ring_appended}
 use Rattle.journalist.specs.Package.{package_frozen_journal_call, frozen_packaged, package_in_memory_journal_call}

@@ -72,7 +72,8 @@ module _ (s : List ℕ) (p : ℕ) where
   byte_behind h = sym (get_or-eq_default (image_payload s) 0 h)
 
   -- a word that ends in the block where it starts
-  pub word_inside : p < length (image_payload s) → p % 4064 ≤ 4060 → word_at s (place_of p) ≡ word_at (image_payload s) p
+  pub word_inside : p < length (image_payload s) → p % 4064 ≤ 4060
+      → word_at s (place_of p) ≡ word_at (image_payload s) p
   word_inside h inside =
       omega (
         arith,

@@ -10,7 +10,7 @@ unfoldable pub image_payload : (image : List ℕ) → List ℕ
 image_payload image = without_checksums (length image / 4096) image
 
 -- the lowest damaged block of two parts, b's counted on from a's; where a is whole blocks, that of a ++ b
--- (`damaged-joined` in proofs/Damage)
+-- (`damaged_joined` in proofs/Damage)
 unfoldable pub lowest_of_two : (a b : List ℕ) → Option ℕ
 lowest_of_two a b =
     let blocks = length a / 4096 in

@@ -102,7 +102,8 @@ pub record BatchTold (s : List ℕ) (es : List JournalEntry) (next : ℕ) : Type
   pub rest : List ℕ
   pub read : listed s ≡ some (es, rest)
 
-pub batch_told : (s : List ℕ) (es : List JournalEntry) (next : ℕ) → front_batch s ≡ some (es, next) → BatchTold s es next
+pub batch_told : (s : List ℕ) (es : List JournalEntry) (next : ℕ) → front_batch s ≡ some (es, next)
+    → BatchTold s es next
 batch_told s es next e = go (headed? s)
   where
     impossible : ◌≡◌ {A = Option (List JournalEntry × ℕ)} none (some (es, next)) → BatchTold s es next

@@ -14,7 +14,8 @@ use lib.Seq.{take-append-le}
 use Rattle.words.specs.Lists.{chunks, concat_seq}
 use Rattle.journal_entry.specs.Entry.{JournalEntry}
 use Rattle.journal_entry.proofs.Options.{bind_parts, provided_parts}
-use Rattle.journal_range.specs.Range.{JournalRange, parse_header, parse_journal_range_of_bytes, parse_from, parse_from_at}
+use Rattle.journal_range.specs.Range.{JournalRange, parse_header, parse_journal_range_of_bytes, parse_from}
+use Rattle.journal_range.specs.Range.{parse_from_at}
 use Rattle.journal_range.specs.Range.{parse_journal_range_at}
 use Rattle.journal_range.specs.Payload.{parse_payload}
 use Rattle.journal_range.proofs.Same.{both}

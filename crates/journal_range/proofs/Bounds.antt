@@ -71,7 +71,8 @@ pub range_weighs : (jr : JournalRange) (es : List JournalEntry) → parse_journa
 unfolding parse_journal_range_at
 range_weighs jr es e = weigh_from 0 jr es e
 
-pub payload_weighs : (s : List ℕ) (es : List JournalEntry) → parse_payload s ≡ some es → sum_journal_entries es ≤ length s
+pub payload_weighs : (s : List ℕ) (es : List JournalEntry) → parse_payload s ≡ some es
+    → sum_journal_entries es ≤ length s
 unfolding parse_payload
 payload_weighs s es e =
     let n : ℕ = length s / 4064 in

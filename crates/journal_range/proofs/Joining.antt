@@ -70,7 +70,7 @@ joining_from zero (x ∷ a) b es fs h p q =
     rw (e₀, le-leb _ _ h₁, le-leb _ _ h₃, take-append-le hdr.1 (x ∷ a) b h₂, e₁, r)
     (rw (← append_assoc es₁ es₂ fs, e₃))
 
--- JOINING, of `parseJournalRange` itself; either range may be empty
+-- JOINING, of `parse_journal_range` itself; either range may be empty
 pub joining : (a b : JournalRange) (es fs : List JournalEntry) → parse_journal_range a ≡ some es
     → parse_journal_range b ≡ some fs
     → parse_journal_range (a ++ b) ≡ some (es ++ fs)

@@ -48,7 +48,8 @@ range_of_limits s es e =
 
 -- TWO LIMITS
 
-again_from : (a b k : ℕ) (jr : JournalRange) (es : List JournalEntry) → parse_from_at a k jr ≡ some es → AllWithinAt b es
+again_from : (a b k : ℕ) (jr : JournalRange) (es : List JournalEntry) → parse_from_at a k jr ≡ some es
+    → AllWithinAt b es
     → parse_from_at b k jr ≡ some es
 unfolding parse_from_at parse_journal_range_of_bytes_at
 again_from a b zero [] es e w = e
@@ -70,7 +71,8 @@ unfolding parse_journal_range_at
 range_again a b jr es e w = again_from a b 0 jr es e w
 
 -- whatever reads at a limit reads as the same list at any larger one
-pub larger_reads : (a b : ℕ) → a ≤ b → (jr : JournalRange) (es : List JournalEntry) → parse_journal_range_at a jr ≡ some es
+pub larger_reads : (a b : ℕ) → a ≤ b → (jr : JournalRange) (es : List JournalEntry)
+    → parse_journal_range_at a jr ≡ some es
     → parse_journal_range_at b jr ≡ some es
 larger_reads a b h jr es e = range_again a b jr es e (all_larger a b h es (range_within a jr es e))
 

@@ -23,8 +23,8 @@ parse_header s = do
 unfoldable pub parse_journal_range_of_bytes_at : (limit : ℕ) (s : List ℕ) (nentries : ℕ) → Option (List JournalEntry)
 parse_journal_range_of_bytes_at limit s nentries = parse_entries_at limit nentries (drop 8 s)
 
--- `parseFromAt limit k jr` reads jr from its block k on: the first k blocks belong to a batch that is read already.
--- (Recursion on the list itself; `parseJournalRange-cons` in proofs/ is the source's own recursion, on the blocks
+-- `parse_from_at limit k jr` reads jr from its block k on: the first k blocks belong to a batch that is read already.
+-- (Recursion on the list itself; `parse_journal_range_cons` in proofs/ is the source's own recursion, on the blocks
 -- behind a batch.)
 unfoldable pub parse_from_at : (limit k : ℕ) → JournalRange → Option (List JournalEntry)
 parse_from_at limit k [] = some []

@@ -178,7 +178,7 @@ pub record Base (j : Journalist) : Type 0 where
   pub front : side_hangs j.blocks j.front ≡ true
   pub back : side_hangs j.blocks j.back ≡ true
 
--- the tests of `baseHangs` one by one
+-- the tests of `base_hangs` one by one
 pub record Tests (j : Journalist) : Type 0 where
   pub ranged : in_range j.blocks j.ring ≡ true
   pub started : start_hangs j.ring j.start ≡ true

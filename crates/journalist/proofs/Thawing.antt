@@ -1,4 +1,4 @@
--- What a thaw takes back: document 02, paper 2. Appends in between stay behind by `append-stays-behind` (AppendLaws).
+-- What a thaw takes back: document 02, paper 2. Appends in between stay behind by `append_stays_behind` (AppendLaws).
 -- Assumes nothing.
 use mathlib.Core.Path.{◌≡◌, refl, sym, ap, ◌∙◌}
 use mathlib.Core.Bool.{true, false}
@@ -11,7 +11,8 @@ use Rattle.journalist.specs.declared.Last.{Last}
 use Rattle.journalist.specs.declared.Side.TheVariants.{Absent}
 use Rattle.journalist.specs.declared.Journalist.{Journalist}
 use Rattle.journalist.specs.Updates.{no_freeze, with_last}
-use Rattle.journalist.specs.Record.{in_range, start_hangs, region_hangs, side_hangs, list_weight, base_hangs, last_hangs}
+use Rattle.journalist.specs.Record.{in_range, start_hangs, region_hangs, side_hangs, list_weight, base_hangs}
+use Rattle.journalist.specs.Record.{last_hangs}
 use Rattle.journalist.specs.Record.{thawed_record, hangs_together}
 use Rattle.journalist.specs.Changes.{moved_all, last_freeze, frozen_record, appended_record}
 use Rattle.journalist.specs.Calls.{thaw_call}
@@ -43,7 +44,7 @@ pub freeze_of_none : (j : Journalist) → j.memory.entries ≡ 0 → (frozen_rec
 unfolding frozen_record
 freeze_of_none j z = rw z refl
 
--- The premise of `appended-hangs` is needed: here counts hang together, with 16 bytes remembered and no blocks for
+-- The premise of `appended_hangs` is needed: here counts hang together, with 16 bytes remembered and no blocks for
 -- them. The rows take an entry of weight 16, and after it the counts would not hang together after a thaw.
 abbrev crowded : Journalist
 crowded =
@@ -67,6 +68,7 @@ sixteen = journal_insert (1 ∷ 2 ∷ 3 ∷ 4 ∷ []) (5 ∷ 6 ∷ 7 ∷ 8 ∷ [
 
 pub premise_needed : (hangs_together crowded ≡ true) × (can_append crowded sixteen ≡ true)
     × (ring_takes crowded sixteen ≡ true) × (hangs_together (appended_record crowded sixteen) ≡ false)
-unfolding hangs_together base_hangs last_hangs in_range start_hangs region_hangs side_hangs counts_hang list_weight can_append
+unfolding hangs_together base_hangs last_hangs in_range start_hangs region_hangs side_hangs counts_hang list_weight
+    can_append
     ring_takes appended_record
 premise_needed = (refl, refl, refl, refl)

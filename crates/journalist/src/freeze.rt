@@ -53,7 +53,8 @@ impl Journalist {
     // The record that a thaw gives.
     pub(crate) fn thawed(self) -> Journalist
         requires self_value { base_hangs self ≡ true }
-        requires entries_le_entries { (self.last.entries ≤ self.frozen.entries) × (self.last.bytes ≤ self.frozen.bytes) }
+        requires entries_le_entries { (self.last.entries ≤ self.frozen.entries)
+            × (self.last.bytes ≤ self.frozen.bytes) }
         requires blocks_le_held { self.last.blocks ≤ self.held }
         ensures { result ≡ thawed_record self }
     {

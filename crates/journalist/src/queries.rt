@@ -2,7 +2,8 @@
 ghost use Rattle.std.specs.Prelude.{◌≡◌};
 ghost use Rattle.refusals.specs.Outcome.{gives, require◌else◌then◌};
 ghost use Rattle.journalist.specs.Answers.{asked_outcome, count_outcome};
-ghost use Rattle.journalist.specs.Calls.{query_call, has_frozen_journal, has_in_memory_journal, is_replay_empty, present};
+ghost use Rattle.journalist.specs.Calls.{query_call, has_frozen_journal, has_in_memory_journal, is_replay_empty};
+ghost use Rattle.journalist.specs.Calls.{present};
 
 use crate::{Asked, Count, Journalist, Side};
 use refusals::Refusal;

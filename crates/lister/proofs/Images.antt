@@ -73,7 +73,8 @@ module _ (image : List ℕ) (payload replay : ℕ) (text : List ℕ) (room : Roo
   refused_with number o x e is told =
       told ∙ refusal number ∙ ap (λ (t : List ℕ). written t text) (sym is) ∙ suffices o e
 
-  pub too_long : (number : ℕ) (x : Listed × List ℕ) → 61440 < length image → number ≡ 13 → x ≡ listed_refusal number text
+  pub too_long : (number : ℕ) (x : Listed × List ℕ) → 61440 < length image → number ≡ 13
+      → x ≡ listed_refusal number text
       → x ≡ listed_image image payload replay text
   unfolding image_entries
   too_long number x h n told =
@@ -118,7 +119,10 @@ module _ (image : List ℕ) (payload replay : ℕ) (text : List ℕ) (room : Roo
         provided_parts (eqb (length p % 4064) 0) (parse_payload p) es r λ whole e. payload_weighs p es e in
         let fits : sum_journal_entries es ≤ replay = omega (arith, room.of_replay) in
         let enough : 2 * sum_journal_entries es + 32 ≤ length text = omega (arith, room.of_text) in
-        simp (le-leb (sum_journal_entries es) replay fits, le-ltb (length text) (2 * sum_journal_entries es + 32) enough)
+        simp (
+          le-leb (sum_journal_entries es) replay fits,
+          le-ltb (length text) (2 * sum_journal_entries es + 32) enough,
+        )
 
     -- what strip wrote
     pub written_part : (n : ℕ) (after : List ℕ) → strip_call image out ≡ gives n → after ≡ stripped_output image out
@@ -133,7 +137,8 @@ module _ (image : List ℕ) (payload replay : ℕ) (text : List ℕ) (room : Roo
 
     pub strip_blocks : (n : ℕ) (after : List ℕ) (x : Listed × List ℕ) → strip_call image out ≡ gives n
         → after ≡ stripped_output image out
-        → x ≡ listed_payload (take (4064 * n - 0) (drop 0 after)) replay text → x ≡ listed_image image payload replay text
+        → x ≡ listed_payload (take (4064 * n - 0) (drop 0 after)) replay text
+        → x ≡ listed_image image payload replay text
     unfolding listed_payload
     strip_blocks n after x e is told =
         let g = given_told image out n e in

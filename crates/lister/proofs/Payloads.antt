@@ -29,11 +29,14 @@ module _ (room : ℕ) (text : List ℕ) where
   of_unreadable none e = refl
   of_unreadable (some es) e = go (leb (sum_journal_entries es) room) refl
     where
-      go : (t : Bool) → leb (sum_journal_entries es) room ≡ t → listed_refusal 14 text ≡ listed_range (some es) room text
-      go true q = let f : load.Loaded (length es) (sum_journal_entries es) ≡ load.Unreadable = rw q at e in impossible cc
+      go : (t : Bool) → leb (sum_journal_entries es) room ≡ t
+          → listed_refusal 14 text ≡ listed_range (some es) room text
+      go true q = let f : load.Loaded (length es) (sum_journal_entries es) ≡ load.Unreadable = rw q at e in
+          impossible cc
       go false q = let f : load.Short ≡ load.Unreadable = rw q at e in impossible cc
 
-  of_short : (o : Option (List JournalEntry)) → load_answer o room ≡ load.Short → (Short, text) ≡ listed_range o room text
+  of_short : (o : Option (List JournalEntry)) → load_answer o room ≡ load.Short
+      → (Short, text) ≡ listed_range o room text
   of_short none e = impossible cc
   of_short (some es) e = go (leb (sum_journal_entries es) room) refl
     where

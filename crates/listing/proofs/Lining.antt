@@ -58,7 +58,8 @@ lines_with e (some x) r = refl
 pub record Lining (s : List ℕ) (count : ℕ) (d₀ : List ℕ) (at : ℕ) (d : List ℕ) (here left to : ℕ) : Type 0 where
   pub from : here ≤ length s
   pub reads : Reads (read_entries left (part s here (length s)))
-  pub putting : Putting d₀ at (lines_of (read_entries count s)) d to (lines_of (read_entries left (part s here (length s))))
+  pub putting : Putting d₀ at (lines_of (read_entries count s)) d to
+      (lines_of (read_entries left (part s here (length s))))
 
 pub lining_starts : (s : List ℕ) (count : ℕ) (d₀ : List ℕ) (at : ℕ) → Reads (read_entries count s)
     → at + length (lines_of (read_entries count s)) ≤ length d₀ → Lining s count d₀ at d₀ 0 count at
@@ -101,7 +102,8 @@ module _ {s : List ℕ} {count : ℕ} {d₀ : List ℕ} {at : ℕ} {d : List ℕ
       reads_now : Reads (with (entry_at_place s p) rest)
       reads_now = subst Reads step w.reads
 
-      lines_now : lines_of (read_entries left (part s here (length s))) ≡ entry_line (entry_at_place s p) ++ lines_of rest
+      lines_now : lines_of (read_entries left (part s here (length s)))
+          ≡ entry_line (entry_at_place s p) ++ lines_of rest
       lines_now = ap lines_of step ∙ lines_with (entry_at_place s p) rest reads_now
 
       pub line_fits : to + length (entry_line (entry_at_place s p)) ≤ length d

@@ -78,13 +78,15 @@ unfolding write_journal_entries
 length_write_journal_entries buf n idx [] long fits = long
 length_write_journal_entries buf n idx (journal_insert key value ∷ es) long fits =
     length_write_journal_entries
-    (write_onto (write_int_onto (write_onto (write_int_onto buf n idx (length key)) n (idx + 4) key) n (idx + 4 + length key) (length value)) n
+    (write_onto (write_int_onto (write_onto (write_int_onto buf n idx (length key)) n (idx + 4) key) n
+    (idx + 4 + length key) (length value)) n
     (idx + 4 + length key + 4) value)
     n (idx + 4 + length key + 4 + length value) es
     (length_pieces buf n idx (length key) key value long (omega arith)) (omega arith)
 length_write_journal_entries buf n idx (journal_clone from to ∷ es) long fits =
     length_write_journal_entries
-    (write_onto (write_int_onto (write_onto (write_int_onto buf n idx (length from + 4096)) n (idx + 4) from) n (idx + 4 + length from) (length to)) n
+    (write_onto (write_int_onto (write_onto (write_int_onto buf n idx (length from + 4096)) n (idx + 4) from) n
+    (idx + 4 + length from) (length to)) n
     (idx + 4 + length from + 4) to)
     n (idx + 4 + length from + 4 + length to) es
     (length_pieces buf n idx (length from + 4096) from to long (omega arith)) (omega arith)

@@ -148,7 +148,8 @@ module _ (size place b : ℕ) (inside : place ≤ size) (fits : b ≤ size) wher
 -- A ring as it is lent: x up to its end, y from its start; the list starts `at` bytes on in x ++ y.
 
 -- behind some bytes of a block, so much less is left to its end
-pub block_left : (done filled : ℕ) → filled < to_block_end done → to_block_end (done + filled) ≡ to_block_end done - filled
+pub block_left : (done filled : ℕ) → filled < to_block_end done
+    → to_block_end (done + filled) ≡ to_block_end done - filled
 block_left done filled h = omega arith
 
 -- so a run that passes neither end from there passes neither from the first of those bytes

@@ -120,7 +120,8 @@ put_mid_splice d ys zs at k e n =
 -- a write to the front of d
 pub put_mid_front : (d s ys : List ℕ) (k : ℕ) → ys ≡ s → length s ≡ k
     → put_mid 0 k d ys ≡ take (length s) s ++ drop (length s) d
-put_mid_front d s ys k e n = ap₂ ◌++◌ (e ∙ sym (take_all (length s) s (le_of_eq refl))) (ap (λ (m : ℕ). drop m d) (sym n))
+put_mid_front d s ys k e n =
+    ap₂ ◌++◌ (e ∙ sym (take_all (length s) s (le_of_eq refl))) (ap (λ (m : ℕ). drop m d) (sym n))
 
 -- what is left of two lists joined, from a place in the first or in the second
 module _ (a b : List ℕ) (at : ℕ) where

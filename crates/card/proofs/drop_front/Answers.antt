@@ -38,5 +38,6 @@ pub returns : goal.returns
 returns c =
     let s = c.args in
     c.rewrite.ensures
-    ∙ ap₂ (rewritten s.card.now) (c.block_on-next.ensures ∙ ap (λ (x : ℕ). advance s.n x s.dropped) c.live_start-start.ensures)
+    ∙ ap₂ (rewritten s.card.now) (c.block_on-next.ensures
+    ∙ ap (λ (x : ℕ). advance s.n x s.dropped) c.live_start-start.ensures)
     (ap (λ (x : ℕ). x - s.dropped) c.live_len-len.ensures)

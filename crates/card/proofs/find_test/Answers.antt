@@ -26,12 +26,14 @@ is_formed-requires c =
 pub returns-then-not-is_formed : goal.returns-then-not-is_formed
 returns-then-not-is_formed c =
     let s = c.args in
-    find_18 s.n s.card.now s.room (ranged (goal.at.returns-then-not-is_formed c).After-is_formed) (failed c.is_formed.ensures c.if-not-is_formed.true-raw)
+    find_18 s.n s.card.now s.room (ranged (goal.at.returns-then-not-is_formed c).After-is_formed)
+    (failed c.is_formed.ensures c.if-not-is_formed.true-raw)
 
 pub returns-then-room-blocks : goal.returns-then-room-blocks
 returns-then-room-blocks c =
     let s = c.args in
-    find_9 s.n s.card.now s.room (ranged (goal.at.returns-then-room-blocks c).After-is_formed) (passed c.is_formed.ensures c.if-not-is_formed.false-raw)
+    find_9 s.n s.card.now s.room (ranged (goal.at.returns-then-room-blocks c).After-is_formed)
+    (passed c.is_formed.ensures c.if-not-is_formed.false-raw)
     (omega (arith, c.live_len-blocks.ensures, c.if-room-blocks.true))
 
 pub live_damage-damage-requires : goal.live_damage-damage-requires
@@ -43,7 +45,8 @@ live_damage-damage-requires c = (
 pub returns-in-Block : goal.returns-in-Block
 returns-in-Block c =
     let s = c.args in
-    find_12 s.n s.card.now s.room (ranged (goal.at.returns-in-Block c).After-is_formed) (passed c.is_formed.ensures c.if-not-is_formed.false-raw)
+    find_12 s.n s.card.now s.room (ranged (goal.at.returns-in-Block c).After-is_formed)
+    (passed c.is_formed.ensures c.if-not-is_formed.false-raw)
     (omega (arith, c.live_len-blocks.ensures, c.if-room-blocks.false)) _
     (damage_some _ _ (sym c.live_damage-damage.ensures ∙ c.in-Block.is))
 

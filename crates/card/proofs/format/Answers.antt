@@ -7,7 +7,9 @@ use Rattle.card.proofs.format.Goals as goal
 
 pub returns-then-not-blocks_in_range : goal.returns-then-not-blocks_in_range
 returns-then-not-blocks_in_range c =
-    let s = c.args in let told = format_1 s.n s.card.now (failed c.blocks_in_range.ensures c.if-not-blocks_in_range.true-raw) in record { result_value = told.0; card_new = told.1 }
+    let s = c.args in let told = format_1 s.n s.card.now
+    (failed c.blocks_in_range.ensures c.if-not-blocks_in_range.true-raw) in
+    record { result_value = told.0; card_new = told.1 }
 
 pub card_sized-requires : goal.card_sized-requires
 card_sized-requires c =
@@ -18,7 +20,8 @@ pub returns-then-not-card_sized : goal.returns-then-not-card_sized
 returns-then-not-card_sized c =
     let s = c.args in let told = format_18 s.n s.card.now
     (passed c.blocks_in_range.ensures
-    c.if-not-blocks_in_range.false-raw) (failed c.card_sized.ensures c.if-not-card_sized.true-raw) in record { result_value = told.0; card_new = told.1 }
+    c.if-not-blocks_in_range.false-raw) (failed c.card_sized.ensures c.if-not-card_sized.true-raw) in
+    record { result_value = told.0; card_new = told.1 }
 
 pub rewrite-requires : goal.rewrite-requires
 rewrite-requires c =

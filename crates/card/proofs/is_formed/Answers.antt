@@ -28,17 +28,21 @@ slice_bounds-is_superblock-end c =
 pub returns-then-not-is_superblock : goal.returns-then-not-is_superblock
 returns-then-not-is_superblock c =
     let s = c.args in
-    formed_other s.n s.card.now (sized (goal.at.returns-then-not-is_superblock c).After-card_sized c.if-not-card_sized.false-raw) _ _ c.live_start-start.ensures
+    formed_other s.n s.card.now (sized
+    (goal.at.returns-then-not-is_superblock c).After-card_sized c.if-not-card_sized.false-raw) _ _
+    c.live_start-start.ensures
     c.live_len-len.ensures (failed c.is_superblock.ensures c.if-not-is_superblock.true-raw)
 
 pub returns-then-start-n : goal.returns-then-start-n
 returns-then-start-n c =
     let s = c.args in
-    formed_within s.n s.card.now (sized (goal.at.returns-then-start-n c).After-card_sized c.if-not-card_sized.false-raw) _ _ c.live_start-start.ensures
+    formed_within s.n s.card.now (sized
+    (goal.at.returns-then-start-n c).After-card_sized c.if-not-card_sized.false-raw) _ _ c.live_start-start.ensures
     c.live_len-len.ensures (passed c.is_superblock.ensures c.if-not-is_superblock.false-raw) c.if-start-n.true
 
 pub returns-else-start-n : goal.returns-else-start-n
 returns-else-start-n c =
     let s = c.args in
-    formed_past s.n s.card.now (sized (goal.at.returns-else-start-n c).After-card_sized c.if-not-card_sized.false-raw) _ _ c.live_start-start.ensures
+    formed_past s.n s.card.now (sized
+    (goal.at.returns-else-start-n c).After-card_sized c.if-not-card_sized.false-raw) _ _ c.live_start-start.ensures
     c.live_len-len.ensures (passed c.is_superblock.ensures c.if-not-is_superblock.false-raw) c.if-start-n.false

@@ -26,12 +26,14 @@ is_formed-requires c =
 pub returns-then-not-is_formed : goal.returns-then-not-is_formed
 returns-then-not-is_formed c =
     let s = c.args in
-    release_18 s.n s.card.now (ranged (goal.at.returns-then-not-is_formed c).After-is_formed) (failed c.is_formed.ensures c.if-not-is_formed.true-raw)
+    release_18 s.n s.card.now (ranged (goal.at.returns-then-not-is_formed c).After-is_formed)
+    (failed c.is_formed.ensures c.if-not-is_formed.true-raw)
 
 pub returns-then-live_len-lt1 : goal.returns-then-live_len-lt1
 returns-then-live_len-lt1 c =
     let s = c.args in
-    release_8 s.n s.card.now (ranged (goal.at.returns-then-live_len-lt1 c).After-is_formed) (passed c.is_formed.ensures c.if-not-is_formed.false-raw)
+    release_8 s.n s.card.now (ranged (goal.at.returns-then-live_len-lt1 c).After-is_formed)
+    (passed c.is_formed.ensures c.if-not-is_formed.false-raw)
     (omega (arith, c.live_len.ensures, c.if-live_len-lt1.true))
 
 pub live_damage-damage-requires : goal.live_damage-damage-requires
@@ -51,6 +53,7 @@ release_rows-requires c = (
 pub returns-in-Block : goal.returns-in-Block
 returns-in-Block c =
     let s = c.args in
-    release_12 s.n s.card.now (ranged (goal.at.returns-in-Block c).After-is_formed) (passed c.is_formed.ensures c.if-not-is_formed.false-raw)
+    release_12 s.n s.card.now (ranged (goal.at.returns-in-Block c).After-is_formed)
+    (passed c.is_formed.ensures c.if-not-is_formed.false-raw)
     (omega (arith, c.live_len.ensures, c.if-live_len-lt1.false)) _
     (damage_some _ _ (sym c.live_damage-damage.ensures ∙ c.in-Block.is))

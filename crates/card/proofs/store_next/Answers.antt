@@ -48,7 +48,12 @@ returns-then-made-blocks c =
     let h = c.if-made-blocks.true in
     by_block s.made (image_blocks s.image.now) _ _ _ h
     (block_put s.n s.card.now s.image.now s.made c.live_start-start.result c.live_len-len.result c.block_on.result
-    c.live_start-start.ensures c.live_len-len.ensures c.block_on.ensures (omega (arith, place_in (goal.at.returns-then-made-blocks c).After-block_on, (is_formed (goal.at.returns-then-made-blocks c).Start).size))
+    c.live_start-start.ensures c.live_len-len.ensures c.block_on.ensures
+    (omega (
+      arith,
+      place_in (goal.at.returns-then-made-blocks c).After-block_on,
+      (is_formed (goal.at.returns-then-made-blocks c).Start).size,
+    ))
     (omega arith) c.copy_from_slice.new.self c.copy_from_slice.ensures.after)
 
 pub rewrite-requires : goal.rewrite-requires

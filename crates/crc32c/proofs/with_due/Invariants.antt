@@ -8,7 +8,8 @@ use Rattle.crc32c.specs.Lanes.{lanes}
 use Rattle.crc32c.proofs.with_due.Given as goal
 
 abbrev pub invariant-loop-i : goal.invariant-loop-i
-invariant-loop-i l = (l.i ≤ length l.s) × (lanes l.r (l.first ∷ l.second ∷ l.third ∷ []) (drop l.i l.s) ≡ lanes l.a (l.b ∷ l.c ∷ l.d ∷ []) l.s)
+invariant-loop-i l = (l.i ≤ length l.s)
+    × (lanes l.r (l.first ∷ l.second ∷ l.third ∷ []) (drop l.i l.s) ≡ lanes l.a (l.b ∷ l.c ∷ l.d ∷ []) l.s)
 
 abbrev pub decreases-loop-i : goal.decreases-loop-i
 decreases-loop-i l = length l.s - l.i

@@ -9,7 +9,8 @@ use Rattle.crc32c.specs.Lanes.{lanes}
 use Rattle.crc32c.proofs.with_words.Given as goal
 
 abbrev pub invariant-loop-i : goal.invariant-loop-i
-invariant-loop-i l = (l.i ≤ length l.s) × (lanes l.a (l.b ∷ l.c ∷ l.d ∷ []) (drop l.i l.s) ≡ foldl step_byte l.register l.s)
+invariant-loop-i l =
+    (l.i ≤ length l.s) × (lanes l.a (l.b ∷ l.c ∷ l.d ∷ []) (drop l.i l.s) ≡ foldl step_byte l.register l.s)
 
 abbrev pub decreases-loop-i : goal.decreases-loop-i
 decreases-loop-i l = length l.s - l.i

@@ -1,4 +1,4 @@
--- `blocks_in_range` meets its contract: its two tests are those of `blocksInRange`.
+-- `blocks_in_range` meets its contract: its two tests are those of `blocks_in_range`.
 -- Assumes nothing.
 use Rattle.refusals.proofs.Tests.{decides}
 use Rattle.disk_layout.proofs.blocks_in_range.Goals as goal

@@ -1,4 +1,4 @@
--- `cyclic_overlap` meets its contract: each return is the case of `journalCyclicIntervalOverlap` that its tests
+-- `cyclic_overlap` meets its contract: each return is the case of `journal_cyclic_interval_overlap` that its tests
 -- lead to. No sum wraps, since both intervals are valid. Assumes nothing.
 use Rattle.disk_layout.proofs.Intervals.{BothValid, both_facts}
 use Rattle.disk_layout.specs.JournalInterval.{journal_cyclic_interval_overlap}

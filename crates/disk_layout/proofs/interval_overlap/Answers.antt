@@ -1,4 +1,4 @@
--- `interval_overlap` meets its contract: its two tests are those of `journalIntervalOverlap`.
+-- `interval_overlap` meets its contract: its two tests are those of `journal_interval_overlap`.
 -- Assumes nothing.
 use Rattle.refusals.proofs.Tests.{decides}
 use Rattle.disk_layout.specs.JournalInterval.{journal_interval_overlap}

@@ -1,4 +1,4 @@
--- `journal_back_interval` meets its contract: each return is the row of `backCall` that its tests lead to, and the
+-- `journal_back_interval` meets its contract: each return is the row of `back_call` that its tests lead to, and the
 -- back goes by the room alone (`back_none`, `back_some`). Assumes nothing.
 use Prim.Native.Nat.{◌<◌}
 use Rattle.disk_layout.proofs.Intervals.{valid_facts}
@@ -31,7 +31,10 @@ returns-then-not-blocks_in_range c =
 pub returns-then-not-valid_interval : goal.returns-then-not-valid_interval
 unfolding back_call
 returns-then-not-valid_interval c =
-    simp (ranged (goal.at.returns-then-not-valid_interval c).Else-not-blocks_in_range, failed c.valid_interval.ensures c.if-not-valid_interval.true-raw)
+    simp (
+      ranged (goal.at.returns-then-not-valid_interval c).Else-not-blocks_in_range,
+      failed c.valid_interval.ensures c.if-not-valid_interval.true-raw,
+    )
 
 pub overflow_sub-room : goal.overflow_sub-room
 overflow_sub-room c = omega (arith, inside (goal.at.overflow_sub-room c).Else-not-valid_interval)
@@ -39,9 +42,17 @@ overflow_sub-room c = omega (arith, inside (goal.at.overflow_sub-room c).Else-no
 pub returns-then-len-room : goal.returns-then-len-room
 unfolding back_call
 returns-then-len-room c =
-    simp (ranged (goal.at.returns-then-len-room c).Else-not-blocks_in_range, valid (goal.at.returns-then-len-room c).Else-not-valid_interval, back_none _ _ _ c.if-len-room.true)
+    simp (
+      ranged (goal.at.returns-then-len-room c).Else-not-blocks_in_range,
+      valid (goal.at.returns-then-len-room c).Else-not-valid_interval,
+      back_none _ _ _ c.if-len-room.true,
+    )
 
 pub returns : goal.returns
 unfolding back_call
 returns c =
-    simp (ranged (goal.at.returns c).Else-not-blocks_in_range, valid (goal.at.returns c).Else-not-valid_interval, back_some _ _ _ c.if-len-room.false)
+    simp (
+      ranged (goal.at.returns c).Else-not-blocks_in_range,
+      valid (goal.at.returns c).Else-not-valid_interval,
+      back_some _ _ _ c.if-len-room.false,
+    )

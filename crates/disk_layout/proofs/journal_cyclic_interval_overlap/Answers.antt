@@ -1,5 +1,5 @@
--- `journal_cyclic_interval_overlap` meets its contract: each return is the row of `overlapCall` that its tests lead to.
--- Assumes nothing.
+-- `journal_cyclic_interval_overlap` meets its contract: each return is the row of `overlap_call` that its tests
+-- lead to. Assumes nothing.
 use Rattle.disk_layout.proofs.Intervals.{range_facts}
 use Rattle.refusals.proofs.Tests.{failed, passed}
 use Rattle.disk_layout.specs.Calls.{overlap_call}
@@ -26,7 +26,10 @@ returns-then-not-blocks_in_range c =
 pub returns-then-not-both_valid : goal.returns-then-not-both_valid
 unfolding overlap_call
 returns-then-not-both_valid c =
-    simp (ranged (goal.at.returns-then-not-both_valid c).Else-not-blocks_in_range, failed c.both_valid.ensures c.if-not-both_valid.true-raw)
+    simp (
+      ranged (goal.at.returns-then-not-both_valid c).Else-not-blocks_in_range,
+      failed c.both_valid.ensures c.if-not-both_valid.true-raw,
+    )
 
 pub cyclic_overlap-requires : goal.cyclic_overlap-requires
 cyclic_overlap-requires c =
@@ -38,4 +41,5 @@ cyclic_overlap-requires c =
 pub returns : goal.returns
 unfolding overlap_call
 returns c =
-    simp (ranged (goal.at.returns c).Else-not-blocks_in_range, valid (goal.at.returns c).Else-not-both_valid) (ap gives c.cyclic_overlap.ensures)
+    simp (ranged (goal.at.returns c).Else-not-blocks_in_range, valid (goal.at.returns c).Else-not-both_valid)
+    (ap gives c.cyclic_overlap.ensures)

@@ -1,5 +1,5 @@
--- `journal_front_interval` meets its contract: each return is the row of `frontCall`, and the case of
--- `JournalFrontInterval`, that its tests lead to. Assumes nothing.
+-- `journal_front_interval` meets its contract: each return is the row of `front_call`, and the case of
+-- `journal_front_interval`, that its tests lead to. Assumes nothing.
 use Prim.Native.Nat.{◌<◌}
 use Rattle.disk_layout.proofs.Intervals.{valid_facts}
 use Rattle.refusals.proofs.Tests.{failed, passed}
@@ -31,12 +31,19 @@ returns-then-not-blocks_in_range c =
 pub returns-then-not-valid_interval : goal.returns-then-not-valid_interval
 unfolding front_call journal_front_interval
 returns-then-not-valid_interval c =
-    simp (ranged (goal.at.returns-then-not-valid_interval c).Else-not-blocks_in_range, failed c.valid_interval.ensures c.if-not-valid_interval.true-raw)
+    simp (
+      ranged (goal.at.returns-then-not-valid_interval c).Else-not-blocks_in_range,
+      failed c.valid_interval.ensures c.if-not-valid_interval.true-raw,
+    )
 
 pub returns-then-len-eq0 : goal.returns-then-len-eq0
 unfolding front_call journal_front_interval
 returns-then-len-eq0 c =
-    simp (ranged (goal.at.returns-then-len-eq0 c).Else-not-blocks_in_range, valid (goal.at.returns-then-len-eq0 c).Else-not-valid_interval, eq-eqb _ _ c.if-len-eq0.true)
+    simp (
+      ranged (goal.at.returns-then-len-eq0 c).Else-not-blocks_in_range,
+      valid (goal.at.returns-then-len-eq0 c).Else-not-valid_interval,
+      eq-eqb _ _ c.if-len-eq0.true,
+    )
 
 pub overflow_sub-n : goal.overflow_sub-n
 overflow_sub-n c = omega (arith, inside (goal.at.overflow_sub-n c).Else-not-valid_interval)

@@ -1,4 +1,4 @@
--- `journal_interval_of_location` meets its contract: each return is the row of `intervalCall` that its tests lead to.
+-- `journal_interval_of_location` meets its contract: each return is the row of `interval_call` that its tests lead to.
 -- Assumes nothing.
 use Rattle.disk_layout.proofs.Intervals.{range_facts}
 use Rattle.disk_layout.proofs.Locations.{location_facts}
@@ -29,7 +29,10 @@ valid_location-requires c =
 pub returns-then-not-valid_location : goal.returns-then-not-valid_location
 unfolding interval_call
 returns-then-not-valid_location c =
-    simp (ranged (goal.at.returns-then-not-valid_location c).Else-not-blocks_in_range, failed c.valid_location.ensures c.if-not-valid_location.true-raw)
+    simp (
+      ranged (goal.at.returns-then-not-valid_location c).Else-not-blocks_in_range,
+      failed c.valid_location.ensures c.if-not-valid_location.true-raw,
+    )
 
 pub overflow_sub-result : goal.overflow_sub-result
 overflow_sub-result c =

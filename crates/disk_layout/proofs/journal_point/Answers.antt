@@ -1,4 +1,4 @@
--- `journal_point` meets its contract: each return is the row of `pointCall` that its tests lead to.
+-- `journal_point` meets its contract: each return is the row of `point_call` that its tests lead to.
 -- Assumes nothing.
 use Rattle.disk_layout.proofs.Intervals.{range_facts}
 use Rattle.refusals.proofs.Tests.{failed, passed}

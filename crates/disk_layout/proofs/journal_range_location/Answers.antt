@@ -1,4 +1,4 @@
--- `journal_range_location` meets its contract: each return is the row of `locationCall` that its tests lead to.
+-- `journal_range_location` meets its contract: each return is the row of `location_call` that its tests lead to.
 -- Assumes nothing.
 use Rattle.disk_layout.proofs.Intervals.{contiguous_facts, range_facts}
 use Rattle.refusals.proofs.Tests.{failed, passed}
@@ -26,7 +26,10 @@ returns-then-not-blocks_in_range c =
 pub returns-then-not-contiguous_interval : goal.returns-then-not-contiguous_interval
 unfolding location_call
 returns-then-not-contiguous_interval c =
-    simp (ranged (goal.at.returns-then-not-contiguous_interval c).Else-not-blocks_in_range, failed c.contiguous_interval.ensures c.if-not-contiguous_interval.true-raw)
+    simp (
+      ranged (goal.at.returns-then-not-contiguous_interval c).Else-not-blocks_in_range,
+      failed c.contiguous_interval.ensures c.if-not-contiguous_interval.true-raw,
+    )
 
 pub overflow_mul-result : goal.overflow_mul-result
 overflow_mul-result c =

@@ -1,5 +1,5 @@
--- `next_start_point` meets its contract: each return is the row of `nextStartCall`, and the case of
--- `NextStartPoint`, that its tests lead to. Assumes nothing.
+-- `next_start_point` meets its contract: each return is the row of `next_start_call`, and the case of
+-- `next_start_point`, that its tests lead to. Assumes nothing.
 use Rattle.disk_layout.proofs.Intervals.{range_facts, valid_facts}
 use Rattle.refusals.proofs.Tests.{failed, passed}
 use Rattle.disk_layout.specs.Calls.{next_start_call}
@@ -27,7 +27,10 @@ returns-then-not-blocks_in_range c =
 pub returns-then-not-valid_interval : goal.returns-then-not-valid_interval
 unfolding next_start_call next_start_point
 returns-then-not-valid_interval c =
-    simp (ranged (goal.at.returns-then-not-valid_interval c).Else-not-blocks_in_range, failed c.valid_interval.ensures c.if-not-valid_interval.true-raw)
+    simp (
+      ranged (goal.at.returns-then-not-valid_interval c).Else-not-blocks_in_range,
+      failed c.valid_interval.ensures c.if-not-valid_interval.true-raw,
+    )
 
 pub overflow_add-end : goal.overflow_add-end
 overflow_add-end c =
@@ -42,9 +45,17 @@ overflow_add-end c =
 pub returns-then-end-n : goal.returns-then-end-n
 unfolding next_start_call next_start_point
 returns-then-end-n c =
-    simp (ranged (goal.at.returns-then-end-n c).Else-not-blocks_in_range, valid (goal.at.returns-then-end-n c).Else-not-valid_interval, lt-ltb _ _ c.if-end-n.true)
+    simp (
+      ranged (goal.at.returns-then-end-n c).Else-not-blocks_in_range,
+      valid (goal.at.returns-then-end-n c).Else-not-valid_interval,
+      lt-ltb _ _ c.if-end-n.true,
+    )
 
 pub returns : goal.returns
 unfolding next_start_call next_start_point
 returns c =
-    simp (ranged (goal.at.returns c).Else-not-blocks_in_range, valid (goal.at.returns c).Else-not-valid_interval, le-ltb _ _ c.if-end-n.false)
+    simp (
+      ranged (goal.at.returns c).Else-not-blocks_in_range,
+      valid (goal.at.returns c).Else-not-valid_interval,
+      le-ltb _ _ c.if-end-n.false,
+    )

@@ -1,4 +1,4 @@
--- `subinterval` meets its contract: each return is the row of `subintervalCall` that its tests lead to.
+-- `subinterval` meets its contract: each return is the row of `subinterval_call` that its tests lead to.
 -- Assumes nothing.
 use Rattle.disk_layout.proofs.Intervals.{range_facts}
 use Rattle.refusals.proofs.Tests.{failed, passed}
@@ -26,7 +26,10 @@ returns-then-not-blocks_in_range c =
 pub returns-then-not-both_valid : goal.returns-then-not-both_valid
 unfolding subinterval_call
 returns-then-not-both_valid c =
-    simp (ranged (goal.at.returns-then-not-both_valid c).Else-not-blocks_in_range, failed c.both_valid.ensures c.if-not-both_valid.true-raw)
+    simp (
+      ranged (goal.at.returns-then-not-both_valid c).Else-not-blocks_in_range,
+      failed c.both_valid.ensures c.if-not-both_valid.true-raw,
+    )
 
 pub lies_within-requires : goal.lies_within-requires
 lies_within-requires c =
@@ -38,4 +41,5 @@ lies_within-requires c =
 pub returns : goal.returns
 unfolding subinterval_call
 returns c =
-    simp (ranged (goal.at.returns c).Else-not-blocks_in_range, valid (goal.at.returns c).Else-not-both_valid) (ap gives c.lies_within.ensures)
+    simp (ranged (goal.at.returns c).Else-not-blocks_in_range, valid (goal.at.returns c).Else-not-both_valid)
+    (ap gives c.lies_within.ensures)

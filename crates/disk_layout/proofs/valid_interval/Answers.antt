@@ -1,4 +1,4 @@
--- `valid_interval` meets its contract: its two tests are those of `ValidJournalInterval`.
+-- `valid_interval` meets its contract: its two tests are those of `valid_journal_interval`.
 -- Assumes nothing.
 use Rattle.refusals.proofs.Tests.{decides}
 use Rattle.disk_layout.specs.JournalInterval.{valid_journal_interval}

@@ -1,4 +1,4 @@
--- `wrapped_overlap` meets its contract: it tries the two parts of `wrappedOverlap` one after the other.
+-- `wrapped_overlap` meets its contract: it tries the two parts of `wrapped_overlap` one after the other.
 -- Assumes nothing.
 use Rattle.refusals.proofs.Tests.{told}
 use Rattle.disk_layout.specs.JournalInterval.{wrapped_overlap}

@@ -25,23 +25,28 @@ headed c = omega (arith, (length_joined c.args.a.now c.args.b.now), c.word_at-bl
 
 -- what the walk answered, at the words as they stand in the payload
 walked : (c : After-entries_in-walk)
-    → c.entries_in-walk.result ≡ entries_end (image_payload (c.args.a.now ++ c.args.b.now)) 8 (long (image_payload (c.args.a.now ++ c.args.b.now))) (word_at (image_payload (c.args.a.now ++ c.args.b.now)) 0)
+    → c.entries_in-walk.result ≡ entries_end (image_payload (c.args.a.now ++ c.args.b.now)) 8
+    (long (image_payload (c.args.a.now ++ c.args.b.now))) (word_at (image_payload (c.args.a.now ++ c.args.b.now)) 0)
 walked c =
     c.entries_in-walk.ensures
-    ∙ ap₂ (λ (m n : ℕ). entries_end (image_payload (c.args.a.now ++ c.args.b.now)) 8 (4064 * m) n) c.word_at-blocks.ensures
+    ∙ ap₂ (λ (m n : ℕ). entries_end (image_payload (c.args.a.now ++ c.args.b.now)) 8 (4064 * m) n)
+    c.word_at-blocks.ensures
     c.word_at-count.ensures
 
 pub returns-then-len-lt8 : goal.returns-then-len-lt8
 returns-then-len-lt8 c =
-    answer_none (payload (goal.at.returns-then-len-lt8 c).Start) (λ h. omega (arith, long-payload (goal.at.returns-then-len-lt8 c).Start))
+    answer_none (payload (goal.at.returns-then-len-lt8 c).Start)
+    (λ h. omega (arith, long-payload (goal.at.returns-then-len-lt8 c).Start))
 
 pub returns-then-blocks-lt1 : goal.returns-then-blocks-lt1
 returns-then-blocks-lt1 c =
-    answer_none (payload (goal.at.returns-then-blocks-lt1 c).Start) (λ h. omega (arith, long-payload (goal.at.returns-then-blocks-lt1 c).Start, c.word_at-blocks.ensures))
+    answer_none (payload (goal.at.returns-then-blocks-lt1 c).Start)
+    (λ h. omega (arith, long-payload (goal.at.returns-then-blocks-lt1 c).Start, c.word_at-blocks.ensures))
 
 pub returns-then-len-end : goal.returns-then-len-end
 returns-then-len-end c =
-    answer_none (payload (goal.at.returns-then-len-end c).Start) (λ h. omega (arith, long-payload (goal.at.returns-then-len-end c).Start, c.word_at-blocks.ensures))
+    answer_none (payload (goal.at.returns-then-len-end c).Start)
+    (λ h. omega (arith, long-payload (goal.at.returns-then-len-end c).Start, c.word_at-blocks.ensures))
 
 pub overflow_sub-result : goal.overflow_sub-result
 overflow_sub-result c =
@@ -55,7 +60,9 @@ overflow_sub-result c =
 pub returns-in-Unreadable : goal.returns-in-Unreadable
 returns-in-Unreadable c =
     let s = payload (goal.at.returns-in-Unreadable c).Start in
-    sym (batch_walked s (headed (goal.at.returns-in-Unreadable c).After-entries_in-walk) ∙ ap (walk_answer (word_at s 0) (long s)) (sym (walked (goal.at.returns-in-Unreadable c).After-entries_in-walk) ∙ c.in-Unreadable.is))
+    sym (batch_walked s (headed (goal.at.returns-in-Unreadable c).After-entries_in-walk)
+    ∙ ap (walk_answer (word_at s 0) (long s))
+    (sym (walked (goal.at.returns-in-Unreadable c).After-entries_in-walk) ∙ c.in-Unreadable.is))
 
 pub returns-in-End : goal.returns-in-End
 returns-in-End c =
@@ -63,4 +70,5 @@ returns-in-End c =
     let here = c.in-End.here in
     ap₂ (λ (m n : ℕ). walk_answer m (4064 * n) (End here)) c.word_at-count.ensures c.word_at-blocks.ensures
     ∙ sym (batch_walked s (headed (goal.at.returns-in-End c).After-entries_in-walk)
-    ∙ ap (walk_answer (word_at s 0) (long s)) (sym (walked (goal.at.returns-in-End c).After-entries_in-walk) ∙ c.in-End.is))
+    ∙ ap (walk_answer (word_at s 0) (long s))
+    (sym (walked (goal.at.returns-in-End c).After-entries_in-walk) ∙ c.in-End.is))

@@ -25,23 +25,28 @@ returns-then-end-at c =
 
 pub returns-then-payload_len-end : goal.returns-then-payload_len-end
 returns-then-payload_len-end c =
-    passed_outside (payload (goal.at.returns-then-payload_len-end c).Start) c.args.at c.args.end c.args.count (omega (arith, long (goal.at.returns-then-payload_len-end c).Start))
+    passed_outside (payload (goal.at.returns-then-payload_len-end c).Start) c.args.at c.args.end c.args.count
+    (omega (arith, long (goal.at.returns-then-payload_len-end c).Start))
 
 pub loop-left-init : goal.loop-left-init
 loop-left-init c =
-    passing_starts (payload (goal.at.loop-left-init c).Start) c.args.at c.args.end c.args.count (omega arith) (omega (arith, long (goal.at.loop-left-init c).Start))
+    passing_starts (payload (goal.at.loop-left-init c).Start) c.args.at c.args.end c.args.count (omega arith)
+    (omega (arith, long (goal.at.loop-left-init c).Start))
 
 pub returns-in-Unreadable : goal.returns-in-Unreadable
 returns-in-Unreadable c =
-    passing_stops (payload (goal.at.returns-in-Unreadable c).Start) c.args.at c.args.end c.args.count c.loop-left.here c.loop-left.left c.loop-left.invariant (omega arith)
+    passing_stops (payload (goal.at.returns-in-Unreadable c).Start) c.args.at c.args.end c.args.count
+    c.loop-left.here c.loop-left.left c.loop-left.invariant (omega arith)
     (sym c.entry_at-read.ensures ∙ c.in-Unreadable.is)
 
 pub loop-left-preserved : goal.loop-left-preserved
 loop-left-preserved c =
-    passing_more (payload (goal.at.loop-left-preserved c).Start) c.args.at c.args.end c.args.count c.loop-left.here c.loop-left.left c.loop-left.invariant (omega arith)
+    passing_more (payload (goal.at.loop-left-preserved c).Start) c.args.at c.args.end c.args.count c.loop-left.here
+    c.loop-left.left c.loop-left.invariant (omega arith)
     c.in-Read.place (sym c.entry_at-read.ensures ∙ c.in-Read.is)
 
 pub returns : goal.returns
 returns c =
     let none : c.loop-left.left ≡ 0 = omega arith in
-    passing_ends (payload (goal.at.returns c).Start) c.args.at c.args.end c.args.count c.loop-left.here c.loop-left.left c.loop-left.invariant none
+    passing_ends (payload (goal.at.returns c).Start) c.args.at c.args.end c.args.count c.loop-left.here
+    c.loop-left.left c.loop-left.invariant none

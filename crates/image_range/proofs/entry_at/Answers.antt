@@ -21,14 +21,17 @@ long c = length_joined c.args.a.now c.args.b.now
 
 pub returns-then-payload_len-end : goal.returns-then-payload_len-end
 returns-then-payload_len-end c =
-    sym (read_no (payload (goal.at.returns-then-payload_len-end c).Start) c.args.at c.args.end (λ h. omega (arith, long (goal.at.returns-then-payload_len-end c).Start)))
+    sym (read_no (payload (goal.at.returns-then-payload_len-end c).Start) c.args.at c.args.end
+    (λ h. omega (arith, long (goal.at.returns-then-payload_len-end c).Start)))
 
 pub returns-then-not-fits : goal.returns-then-not-fits
 returns-then-not-fits c =
-    let first = first_at_lem (payload (goal.at.returns-then-not-fits c).Start) c.args.at _ c.word_at-word.ensures _ c.first_len-first.ensures in
+    let first = first_at_lem (payload (goal.at.returns-then-not-fits c).Start) c.args.at _ c.word_at-word.ensures _
+    c.first_len-first.ensures in
     let past : c.args.end < c.args.at + 8 + c.first_len-first.result =
     fit_no _ _ _ c.fits.ensures c.if-not-fits.true-raw in
-    sym (read_no (payload (goal.at.returns-then-not-fits c).Start) c.args.at c.args.end (λ h. omega (arith, first, past)))
+    sym (read_no (payload (goal.at.returns-then-not-fits c).Start) c.args.at c.args.end
+    (λ h. omega (arith, first, past)))
 
 pub overflow_add-at : goal.overflow_add-at
 overflow_add-at c =
@@ -44,6 +47,8 @@ overflow_add-at-2 c =
 
 pub returns : goal.returns
 returns c =
-    let inside : c.args.end ≤ length (payload (goal.at.returns c).Start) = omega (arith, long (goal.at.returns c).Start) in
+    let inside : c.args.end ≤ length (payload (goal.at.returns c).Start) =
+    omega (arith, long (goal.at.returns c).Start) in
     c.placed.ensures (payload (goal.at.returns c).Start) inside c.word_at-word.ensures
-    (c.word_at-after.ensures ∙ ap (λ (n : ℕ). word_at (payload (goal.at.returns c).Start) (c.args.at + 4 + n)) c.first_len-first.ensures)
+    (c.word_at-after.ensures ∙ ap (λ (n : ℕ). word_at (payload (goal.at.returns c).Start) (c.args.at + 4 + n))
+    c.first_len-first.ensures)

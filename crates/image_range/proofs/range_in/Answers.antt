@@ -35,7 +35,9 @@ got c = sym c.batch_from-batch.ensures ∙ c.in-Read.is
 bounds : (c : In-Read)
     → Turn (4064 * ((length c.args.a.now + length c.args.b.now) / 4096)) (4064 * c.loop-block.block) (place c)
 bounds c =
-    turn_blocks (image_payload (c.args.a.now ++ c.args.b.now)) ((length c.args.a.now + length c.args.b.now) / 4096) c.loop-block.block (sym (length_joined c.args.a.now c.args.b.now)) c.loop-block-test.true
+    turn_blocks (image_payload (c.args.a.now ++ c.args.b.now))
+    ((length c.args.a.now + length c.args.b.now) / 4096) c.loop-block.block
+    (sym (length_joined c.args.a.now c.args.b.now)) c.loop-block-test.true
     (place c) (got c)
 
 whole : (c : Start) → range_answer (range_of (payload c)) ≡ total (payload c)
@@ -70,8 +72,10 @@ loop-block-smaller c = omega (arith, bounds (goal.at.loop-block-smaller c).In-Re
 
 pub loop-block-preserved : goal.loop-block-preserved
 loop-block-preserved c =
-    summed_blocks (payload (goal.at.loop-block-preserved c).Start) (blocks (goal.at.loop-block-preserved c).Start) c.loop-block.block (long (goal.at.loop-block-preserved c).Start)
-    c.loop-block-test.true (place (goal.at.loop-block-preserved c).In-Read) (got (goal.at.loop-block-preserved c).In-Read) _ _ c.loop-block.invariant
+    summed_blocks (payload (goal.at.loop-block-preserved c).Start)
+    (blocks (goal.at.loop-block-preserved c).Start) c.loop-block.block (long (goal.at.loop-block-preserved c).Start)
+    c.loop-block-test.true (place (goal.at.loop-block-preserved c).In-Read)
+    (got (goal.at.loop-block-preserved c).In-Read) _ _ c.loop-block.invariant
 
 pub returns : goal.returns
 returns c =

@@ -31,7 +31,8 @@ loop-left-init c =
 pub returns-in-Unreadable : goal.returns-in-Unreadable
 returns-in-Unreadable c =
     let l = c.loop-left in
-    walk_stops (joined (goal.at.returns-in-Unreadable c).Start) c.args.at c.args.end c.args.count l.here l.left l.clones l.invariant
+    walk_stops (joined (goal.at.returns-in-Unreadable c).Start) c.args.at c.args.end c.args.count l.here l.left
+    l.clones l.invariant
     (omega arith)
     (sym c.entry_at-read.ensures ∙ c.in-Unreadable.is)
 
@@ -40,7 +41,8 @@ overflow_add-clones c =
     let l = c.loop-left in
     omega (
       arith,
-      walk_few (joined (goal.at.overflow_add-clones c).Start) c.args.at c.args.end c.args.count l.here l.left l.clones l.invariant
+      walk_few (joined (goal.at.overflow_add-clones c).Start) c.args.at c.args.end c.args.count l.here l.left
+          l.clones l.invariant
           (omega arith)
           (is_clone_kind c.in-Read.place.kind) c.clones_of-clones.result c.clones_of-clones.ensures,
     )
@@ -48,7 +50,8 @@ overflow_add-clones c =
 pub loop-left-preserved : goal.loop-left-preserved
 loop-left-preserved c =
     let l = c.loop-left in
-    walk_more (joined (goal.at.loop-left-preserved c).Start) c.args.at c.args.end c.args.count l.here l.left l.clones l.invariant
+    walk_more (joined (goal.at.loop-left-preserved c).Start) c.args.at c.args.end c.args.count l.here l.left
+    l.clones l.invariant
     (omega arith)
     c.in-Read.place (sym c.entry_at-read.ensures ∙ c.in-Read.is)
     c.clones_of-clones.result c.clones_of-clones.ensures
@@ -57,4 +60,5 @@ pub returns : goal.returns
 returns c =
     let l = c.loop-left in
     let none : l.left ≡ 0 = omega arith in
-    walk_ends (joined (goal.at.returns c).Start) c.args.at c.args.end c.args.count l.here l.left l.clones l.invariant none
+    walk_ends (joined (goal.at.returns c).Start) c.args.at c.args.end c.args.count l.here l.left l.clones
+    l.invariant none

@@ -11,10 +11,12 @@ joined c = c.args.a.now ++ c.args.b.now
 
 pub returns-in-Behind : goal.returns-in-Behind
 returns-in-Behind c =
-    counted_end (joined (goal.at.returns-in-Behind c).Start) c.args.at c.args.end c.args.count _ _ c.counted_in-counted.result
+    counted_end (joined (goal.at.returns-in-Behind c).Start) c.args.at c.args.end c.args.count _ _
+    c.counted_in-counted.result
     c.counted_in-counted.ensures c.in-Behind.is
 
 pub returns-in-Unreadable : goal.returns-in-Unreadable
 returns-in-Unreadable c =
-    counted_stops (joined (goal.at.returns-in-Unreadable c).Start) c.args.at c.args.end c.args.count c.counted_in-counted.result
+    counted_stops (joined (goal.at.returns-in-Unreadable c).Start) c.args.at c.args.end c.args.count
+    c.counted_in-counted.result
     c.counted_in-counted.ensures c.in-Unreadable.is

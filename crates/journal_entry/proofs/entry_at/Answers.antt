@@ -21,10 +21,12 @@ returns-then-a-b c =
 
 pub returns-then-not-fits : goal.returns-then-not-fits
 returns-then-not-fits c =
-    let first = first_at_lem (joined (goal.at.returns-then-not-fits c).Start) c.args.at _ c.word_at-word.ensures _ c.first_len-first.ensures in
+    let first = first_at_lem (joined (goal.at.returns-then-not-fits c).Start) c.args.at _ c.word_at-word.ensures _
+    c.first_len-first.ensures in
     let past : c.args.end < c.args.at + 8 + c.first_len-first.result =
     fit_no _ _ _ c.fits.ensures c.if-not-fits.true-raw in
-    sym (read_no (joined (goal.at.returns-then-not-fits c).Start) c.args.at c.args.end (λ h. omega (arith, first, past)))
+    sym (read_no (joined (goal.at.returns-then-not-fits c).Start) c.args.at c.args.end
+    (λ h. omega (arith, first, past)))
 
 pub overflow_add-at : goal.overflow_add-at
 overflow_add-at c =
@@ -43,4 +45,5 @@ returns c =
     let inside : c.args.end ≤ length (joined (goal.at.returns c).Start) =
     omega (arith, length-append c.args.a.now c.args.b.now) in
     c.placed.ensures (joined (goal.at.returns c).Start) inside c.word_at-word.ensures
-    (c.word_at-after.ensures ∙ ap (λ (n : ℕ). word_at (joined (goal.at.returns c).Start) (c.args.at + 4 + n)) c.first_len-first.ensures)
+    (c.word_at-after.ensures ∙ ap (λ (n : ℕ). word_at (joined (goal.at.returns c).Start) (c.args.at + 4 + n))
+    c.first_len-first.ensures)

@@ -33,7 +33,8 @@ pub returns-then-second_limit-second : goal.returns-then-second_limit-second
 returns-then-second_limit-second c s inside is₁ is₂ =
     let x = c.args in
     let g = second_at_lem s x.at x.word is₁ (x.word - clone_mark (leb 4096 x.word)) refl x.after is₂ in
-    sym (read_no s x.at x.end (λ h. omega (arith, g, limit-got (goal.at.returns-then-second_limit-second c).After-second_limit s x.at is₁)))
+    sym (read_no s x.at x.end (λ h. omega
+    (arith, g, limit-got (goal.at.returns-then-second_limit-second c).After-second_limit s x.at is₁)))
 
 pub returns-then-not-fits : goal.returns-then-not-fits
 returns-then-not-fits c s inside is₁ is₂ =
@@ -70,4 +71,11 @@ returns c s inside is₁ is₂ =
     is₂ ∙ ap (λ (n : ℕ). word_at s (x.at + 4 + n)) (sym c.first_len-first.ensures) in
     let g = second_at_lem s x.at x.word is₁ _ c.first_len-first.ensures x.after is₃ in
     let placed = place_at_lem s x.at x.word is₁ _ c.first_len-first.ensures _ c.kind_of.ensures x.after is₃ in
-    ap Read placed ∙ sym (read_yes s x.at x.end (omega (arith, f, g, limit-got (goal.at.returns c).After-second_limit s x.at is₁, fit-got (goal.at.returns c).After-kind_of)))
+    ap Read placed ∙ sym (read_yes s x.at x.end
+    (omega (
+      arith,
+      f,
+      g,
+      limit-got (goal.at.returns c).After-second_limit s x.at is₁,
+      fit-got (goal.at.returns c).After-kind_of,
+    )))

@@ -19,7 +19,8 @@ pub returns-then-block-lt32 : goal.returns-then-block-lt32
 unfolding checksum_checks_out
 returns-then-block-lt32 c =
     let b = c.args.block.now in
-    shorter (take 32 b) (checksum_bytes (drop 32 b)) (omega (arith, length-take 32 b, length_checksum_bytes (drop 32 b)))
+    shorter (take 32 b) (checksum_bytes (drop 32 b))
+    (omega (arith, length-take 32 b, length_checksum_bytes (drop 32 b)))
 
 pub returns : goal.returns
 unfolding checksum_checks_out
@@ -27,6 +28,11 @@ returns c =
     let b = c.args.block.now in
     let sum = c.checksum-sum.result in
     let same = slice_eq-Decides Decides-eqb (take 32 b) (take 32 sum) _ c.eq.ensures in
-    let whole : take 32 sum ≡ sum = take_all 32 sum (omega (arith, ap length c.checksum-sum.ensures, length_checksum_bytes (take (length b - 32) (drop 32 b)))) in
+    let whole : take 32 sum ≡ sum =
+    take_all 32 sum (omega (
+      arith,
+      ap length c.checksum-sum.ensures,
+      length_checksum_bytes (take (length b - 32) (drop 32 b)),
+    )) in
     decides _ (take 32 b) (take 32 sum) same.0 same.1
     ∙ ap (same_bytes (take 32 b)) (whole ∙ c.checksum-sum.ensures ∙ ap checksum_bytes (tail 32 b))

@@ -24,13 +24,15 @@ returns-then-out-blocks c =
 pub returns-in-Block : goal.returns-in-Block
 returns-in-Block c =
     let s = c.args in
-    let named = damage_some _ _ (sym c.lowest_damaged-damage.ensures ∙ c.in-Block.is) in let told = answered s.image.now s.out.now (ChecksumDiffers _) s.out.now
+    let named = damage_some _ _ (sym c.lowest_damaged-damage.ensures ∙ c.in-Block.is) in let told =
+    answered s.image.now s.out.now (ChecksumDiffers _) s.out.now
     (strip_last s.image.now s.out.now c.if-image-ne0.false c.if-out-blocks.false _ named)
     refl in record { result_value = told.0; out_new = told.1 }
 
 pub returns-in-Nowhere : goal.returns-in-Nowhere
 returns-in-Nowhere c =
     let s = c.args in
-    let none_named = damage_none _ (sym c.lowest_damaged-damage.ensures ∙ c.in-Nowhere.is) in let told = answered s.image.now s.out.now (Blocks (length s.image.now / 4096)) _
+    let none_named = damage_none _ (sym c.lowest_damaged-damage.ensures ∙ c.in-Nowhere.is) in let told =
+    answered s.image.now s.out.now (Blocks (length s.image.now / 4096)) _
     (strip_last s.image.now s.out.now c.if-image-ne0.false c.if-out-blocks.false none none_named)
     c.copy_blocks.ensures in record { result_value = told.0; out_new = told.1 }

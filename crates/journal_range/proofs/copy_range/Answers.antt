@@ -45,8 +45,11 @@ record Bounds (c : In-Read) : Type 0 where
 bounds : (c : In-Read) → Bounds c
 bounds c =
     record {
-      turned = turn (c.args.front.now ++ c.args.back.now) (length c.args.front.now + length c.args.back.now) c.loop-here.here (sym (length-append c.args.front.now c.args.back.now)) c.loop-here.invariant.inside (place c) (got c);
-      room = fits (sym (length-append c.args.front.now c.args.back.now)) c.loop-here.invariant c.loop-here-test.true (bytes_joined c.args.front.now c.args.back.now
+      turned = turn (c.args.front.now ++ c.args.back.now)
+          (length c.args.front.now + length c.args.back.now) c.loop-here.here
+          (sym (length-append c.args.front.now c.args.back.now)) c.loop-here.invariant.inside (place c) (got c);
+      room = fits (sym (length-append c.args.front.now c.args.back.now)) c.loop-here.invariant c.loop-here-test.true
+          (bytes_joined c.args.front.now c.args.back.now
           (λ i. (c.shared_slice_known-1.given i).fits)
           (λ i. (c.shared_slice_known-2-1.given i).fits)) (place c) (got c);
       same = c.loop-here.invariant.long;
@@ -54,7 +57,13 @@ bounds c =
 
 pub loop-here-init : goal.loop-here-init
 loop-here-init c =
-    record { inside = omega arith; blocks = omega (arith, c.requires); long = refl; room = c.requires.room; same = refl }
+    record {
+      inside = omega arith;
+      blocks = omega (arith, c.requires);
+      long = refl;
+      room = c.requires.room;
+      same = refl;
+    }
 
 pub shape_of-dst-in-Unreadable : goal.shape_of-dst-in-Unreadable
 shape_of-dst-in-Unreadable c = c.loop-here.invariant.long
@@ -83,7 +92,9 @@ loop-here-smaller c = omega (arith, bounds (goal.at.loop-here-smaller c).In-Read
 
 pub loop-here-preserved : goal.loop-here-preserved
 loop-here-preserved c =
-    loaded_more (long (goal.at.loop-here-preserved c).Start) c.loop-here.invariant c.loop-here-test.true (bytes (goal.at.loop-here-preserved c).At-loop-here) (place (goal.at.loop-here-preserved c).In-Read) (got (goal.at.loop-here-preserved c).In-Read) _
+    loaded_more (long (goal.at.loop-here-preserved c).Start) c.loop-here.invariant c.loop-here-test.true
+    (bytes (goal.at.loop-here-preserved c).At-loop-here) (place (goal.at.loop-here-preserved c).In-Read)
+    (got (goal.at.loop-here-preserved c).In-Read) _
     c.copy_joined.ensures
 
 pub shape_of-dst : goal.shape_of-dst

@@ -32,15 +32,19 @@ got c = sym c.batch_from-batch.ensures ∙ c.in-Read.is
 bounds : (c : In-Read)
     → Turn (length c.args.front.now + length c.args.back.now) c.loop-at.at (place c)
 bounds c =
-    turn (c.args.front.now ++ c.args.back.now) (length c.args.front.now + length c.args.back.now) c.loop-at.at (sym (length-append c.args.front.now c.args.back.now)) c.loop-at.invariant.inside (place c) (got c)
+    turn (c.args.front.now ++ c.args.back.now) (length c.args.front.now + length c.args.back.now) c.loop-at.at
+    (sym (length-append c.args.front.now c.args.back.now)) c.loop-at.invariant.inside (place c) (got c)
 
 -- whole blocks: the range is the payload
-whole : (c : At-loop-at) → range_answer (range_of (c.args.front.now ++ c.args.back.now)) ≡ total (c.args.front.now ++ c.args.back.now)
-whole c = ap range_answer (range_even (c.args.front.now ++ c.args.back.now) (rw (sym (sym (length-append c.args.front.now c.args.back.now))) c.if-len-ne0.false))
+whole : (c : At-loop-at) → range_answer (range_of (c.args.front.now ++ c.args.back.now))
+    ≡ total (c.args.front.now ++ c.args.back.now)
+whole c = ap range_answer (range_even (c.args.front.now ++ c.args.back.now)
+    (rw (sym (sym (length-append c.args.front.now c.args.back.now))) c.if-len-ne0.false))
 
 pub returns-then-len-ne0 : goal.returns-then-len-ne0
 returns-then-len-ne0 c =
-    sym (ap range_answer (range_uneven (payload (goal.at.returns-then-len-ne0 c).Start) (λ e. c.if-len-ne0.true (rw (long (goal.at.returns-then-len-ne0 c).Start) e))))
+    sym (ap range_answer (range_uneven (payload (goal.at.returns-then-len-ne0 c).Start)
+    (λ e. c.if-len-ne0.true (rw (long (goal.at.returns-then-len-ne0 c).Start) e))))
 
 pub loop-at-init : goal.loop-at-init
 loop-at-init c = summed_none _ _ c.if-len-ne0.false
@@ -71,7 +75,8 @@ loop-at-smaller c = omega (arith, bounds (goal.at.loop-at-smaller c).In-Read)
 
 pub loop-at-preserved : goal.loop-at-preserved
 loop-at-preserved c =
-    summed_more (long (goal.at.loop-at-preserved c).Start) c.loop-at.invariant c.loop-at-test.true (place (goal.at.loop-at-preserved c).In-Read) (got (goal.at.loop-at-preserved c).In-Read)
+    summed_more (long (goal.at.loop-at-preserved c).Start) c.loop-at.invariant c.loop-at-test.true
+    (place (goal.at.loop-at-preserved c).In-Read) (got (goal.at.loop-at-preserved c).In-Read)
 
 pub returns : goal.returns
 returns c =

@@ -24,7 +24,8 @@ returns c =
     let f = c.args.src.now in
     let far : length l ≤ c.args.at + length f = omega arith in record {
       value = sym (advance_far (length l) c.args.at (length f) far ∙ omega arith);
-      ring_new = put_two_runs l c.args.at f c.copy_whole-2.new.dst c.copy_whole-3.new.dst c.requires.0 (omega arith) c.requires.1
+      ring_new = put_two_runs l c.args.at f c.copy_whole-2.new.dst c.copy_whole-3.new.dst c.requires.0
+          (omega arith) c.requires.1
           c.copy_whole-2.ensures c.copy_whole-3.ensures;
       upper_bound = omega arith;
     }

@@ -8,7 +8,10 @@ pub returns : goal.returns
 returns c =
     write_form c.args.ring.now c.args.at (is_clone_kind c.args.kind) c.args.first.now
     c.args.second.now c.mark_of.result
-    c.put_word-first_at.new.ring c.put_bytes-second_word_at.new.ring c.put_word-second_at.new.ring c.put_bytes.new.ring c.put_word-first_at.result c.put_bytes-second_word_at.result c.put_word-second_at.result
+    c.put_word-first_at.new.ring c.put_bytes-second_word_at.new.ring c.put_word-second_at.new.ring
+    c.put_bytes.new.ring c.put_word-first_at.result c.put_bytes-second_word_at.result c.put_word-second_at.result
     c.requires.at_in_bounds.0 c.requires.at_in_bounds.1 c.mark_of.ensures.value
-    c.put_word-first_at.ensures.ring_new c.put_word-first_at.ensures.value c.put_bytes-second_word_at.ensures.ring_new c.put_bytes-second_word_at.ensures.value c.put_word-second_at.ensures.ring_new c.put_word-second_at.ensures.value
+    c.put_word-first_at.ensures.ring_new c.put_word-first_at.ensures.value
+    c.put_bytes-second_word_at.ensures.ring_new c.put_bytes-second_word_at.ensures.value
+    c.put_word-second_at.ensures.ring_new c.put_word-second_at.ensures.value
     c.put_bytes.ensures.ring_new

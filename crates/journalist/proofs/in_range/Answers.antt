@@ -1,4 +1,4 @@
--- `in_range` meets its contract: each return is one case of `inRange`, by the test of N that the call made.
+-- `in_range` meets its contract: each return is one case of `in_range`, by the test of N that the call made.
 -- Assumes nothing.
 use Rattle.refusals.proofs.Tests.{passed, failed}
 use Rattle.journalist.specs.Record.{in_range}

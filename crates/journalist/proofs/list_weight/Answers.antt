@@ -1,4 +1,4 @@
--- `list_weight` meets its contract: each return is one case of `listWeight`, and 8 more than the bytes are past the
+-- `list_weight` meets its contract: each return is one case of `list_weight`, and 8 more than the bytes are past the
 -- largest number only in the second. Assumes nothing.
 use native.Mathlib.Omega.{arith}
 use Rattle.journalist.proofs.Counts.{weight_none, weight_some}

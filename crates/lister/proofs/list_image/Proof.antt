@@ -73,7 +73,8 @@ enum-known-strip-2 c = search rules
 
 mul-end : tie.Need-overflow-mul-end
 mul-end c =
-    let start = c.before.before.before.before.before.before.before.before.before.before.before.before.before.before.before in
+    let start =
+    c.before.before.before.before.before.before.before.before.before.before.before.before.before.before.before in
     let g = given_told start.args.image.now start.args.payload.now c.before.strip3.given.0.0
     (answer_told c.before.before.before.before.before.strip.ensures.0 c.before.strip3.given.1) in
     record { fits = omega (arith, g.count, c.before.before.before.before.before.before.before.if4.false) }
@@ -108,10 +109,13 @@ returns-5 c =
     strip_refused start.args.image.now (length start.args.payload.now) (length start.args.replay.now)
     start.args.text.now (record {
       of-payload = c.before.before.before.before.before.before.before.before.before.before.before.before.before.before.before.if1.false;
-      of-replay = c.before.before.before.before.before.before.before.before.before.before.before.before.before.before.if2.false;
+      of-replay =
+          c.before.before.before.before.before.before.before.before.before.before.before.before.before.before.if2.false;
       of-text = c.before.before.before.before.before.before.before.before.before.before.before.before.before.if3.false;
-    }) c.before.before.before.before.before.before.before.before.before.before.before.before.if4.false start.args.payload.now refl _ _ _
-    (answer_told c.before.before.before.before.before.before.before.before.before.before.strip.ensures.0 c.before.before.before.before.before.before.strip2.given.1)
+    }) c.before.before.before.before.before.before.before.before.before.before.before.before.if4.false
+    start.args.payload.now refl _ _ _
+    (answer_told c.before.before.before.before.before.before.before.before.before.before.strip.ensures.0
+    c.before.before.before.before.before.before.strip2.given.1)
     c.before.before.before.before.number2.ensures c.before.before.list-refusal2.ensures
 
 same-length-4 : tie.Need-same-length-4
@@ -125,7 +129,8 @@ returns-6 c =
     let start = c.before.before.before.before.before.before.before.before.before.before.before.before.before.before.before.before.before.before in
     strip_damaged start.args.image.now (length start.args.payload.now) (length start.args.replay.now)
     start.args.text.now (record {
-      of-payload = c.before.before.before.before.before.before.before.before.before.before.before.before.before.if1.false;
+      of-payload =
+          c.before.before.before.before.before.before.before.before.before.before.before.before.before.if1.false;
       of-replay =
           c.before.before.before.before.before.before.before.before.before.before.before.before.if2.false;
       of-text = c.before.before.before.before.before.before.before.before.before.before.before.if3.false;

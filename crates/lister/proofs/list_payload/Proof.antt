@@ -62,7 +62,8 @@ same-length-2 c = search rules
 
 returns : tie.Need-returns
 returns c =
-    let start = c.before.before.before.before.before.before.before.before.before.before.before.before.before.before.before in
+    let start =
+    c.before.before.before.before.before.before.before.before.before.before.before.before.before.before.before in
     unreadable_listed start.args.payload.now start.args.text.now (length start.args.replay.now) _ _
     (sym c.before.before.before.before.before.before.before.before.before.load.ensures.0
     ∙ c.before.before.before.before.before.enum_told.given.1)

@@ -30,7 +30,8 @@ whole c = walk_whole c.args.wires.now c.args.count (last c) (got c)
 pub returns-then-last-end : goal.returns-then-last-end
 returns-then-last-end c =
     listed_none c.args.wires.now c.args.count c.args.text.now
-    (walk_less c.args.wires.now c.args.count (last (goal.at.returns-then-last-end c).In-End) (got (goal.at.returns-then-last-end c).In-End) c.if-last-end.true)
+    (walk_less c.args.wires.now c.args.count (last (goal.at.returns-then-last-end c).In-End)
+    (got (goal.at.returns-then-last-end c).In-End) c.if-last-end.true)
 
 pub returns-then-text-lt32 : goal.returns-then-text-lt32
 returns-then-text-lt32 c =
@@ -49,7 +50,8 @@ put_entries-requires c =
     let head : length (number_line entries_word c.args.count) ≤ 29 =
     number_most entries_word c.args.count refl (omega arith) in
     let lines : length (lines_of (read_entries c.args.count c.args.wires.now))
-    ≤ 2 * length c.args.wires.now = lines_long w in record { reads = reads_whole w; wires_in_bounds = omega (arith, c.put_number-lines.ensures.place) }
+    ≤ 2 * length c.args.wires.now = lines_long w in
+    record { reads = reads_whole w; wires_in_bounds = omega (arith, c.put_number-lines.ensures.place) }
 
 pub returns-in-Unreadable : goal.returns-in-Unreadable
 returns-in-Unreadable c =
@@ -59,6 +61,7 @@ returns-in-Unreadable c =
 
 pub returns-else-text-end : goal.returns-else-text-end
 returns-else-text-end c =
-    listed_text (whole (goal.at.returns-else-text-end c).In-End (omega arith)) c.args.text.now (omega arith) (omega arith)
+    listed_text (whole (goal.at.returns-else-text-end c).In-End (omega arith)) c.args.text.now (omega arith)
+    (omega arith)
     c.put_number-lines.ensures
     c.put_entries.ensures

@@ -44,13 +44,16 @@ pub put_place-to-requires : goal.put_place-to-requires
 put_place-to-requires c =
     record {
       pieces_in = pieces_in c.args.wires.now c.loop-left.here
-          (length c.args.wires.now) (place (goal.at.put_place-to-requires c).In-Read) (got (goal.at.put_place-to-requires c).In-Read);
-      place_in_bounds = line_fits c.loop-left.invariant (omega arith) (place (goal.at.put_place-to-requires c).In-Read) (got (goal.at.put_place-to-requires c).In-Read);
+          (length c.args.wires.now) (place (goal.at.put_place-to-requires c).In-Read)
+          (got (goal.at.put_place-to-requires c).In-Read);
+      place_in_bounds = line_fits c.loop-left.invariant (omega arith)
+          (place (goal.at.put_place-to-requires c).In-Read) (got (goal.at.put_place-to-requires c).In-Read);
     }
 
 pub loop-left-preserved : goal.loop-left-preserved
 loop-left-preserved c =
-    lining_more c.loop-left.invariant (omega arith) (place (goal.at.loop-left-preserved c).In-Read) (got (goal.at.loop-left-preserved c).In-Read) c.put_place-to.ensures
+    lining_more c.loop-left.invariant (omega arith) (place (goal.at.loop-left-preserved c).In-Read)
+    (got (goal.at.loop-left-preserved c).In-Read) c.put_place-to.ensures
 
 pub shape_of-text : goal.shape_of-text
 shape_of-text c = c.loop-left.invariant.putting.long

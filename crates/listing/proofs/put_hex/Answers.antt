@@ -14,7 +14,8 @@ pub put_hex_byte-to-requires : goal.put_hex_byte-to-requires
 put_hex_byte-to-requires c =
     let bytes = c.args.bytes.now in
     let i = c.loop-i.i in
-    part_fits c.loop-i.invariant (hex_byte (get_or bytes i 0)) (hex_bytes (drop (i + 1) bytes)) (hex_more bytes i (omega arith))
+    part_fits c.loop-i.invariant (hex_byte (get_or bytes i 0)) (hex_bytes (drop (i + 1) bytes))
+    (hex_more bytes i (omega arith))
 
 pub loop-i-preserved : goal.loop-i-preserved
 loop-i-preserved c =

@@ -1,4 +1,4 @@
--- `record_words::decode` meets its contract: each test is one of `wordsRead`, in its order.
+-- `record_words::decode` meets its contract: each test is one of `words_read`, in its order.
 -- Assumes nothing.
 use borrow.Author.Tests.{le-leb, lt-leb, eq-eqb, ne_eqb}
 use Rattle.refusals.proofs.Tests.{passed, failed}

@@ -1,4 +1,4 @@
--- `record_words::put` meets its contract: the laws of `fittedTo`, by whether there is room.
+-- `record_words::put` meets its contract: the laws of `fitted_to`, by whether there is room.
 -- Assumes nothing.
 use Rattle.record_words.proofs.OnRecord.{not_given, no_room, room}
 use Rattle.record_words.proofs.put.Goals as goal
@@ -10,7 +10,8 @@ returns-then-words-lt-WORDS c =
 
 pub returns-in-Refused : goal.returns-in-Refused
 returns-in-Refused c =
-    let told = not_given c.args.words.now c.args.answer _ _ c.in-Refused.is c.number.ensures in record { value = told.0; words_new = told.1 }
+    let told = not_given c.args.words.now c.args.answer _ _ c.in-Refused.is c.number.ensures in
+    record { value = told.0; words_new = told.1 }
 
 pub returns-else-words-lt-WORDS : goal.returns-else-words-lt-WORDS
 returns-else-words-lt-WORDS c =

@@ -28,7 +28,14 @@ pub slice_bounds-result-end : goal.slice_bounds-result-end
 slice_bounds-result-end c =
     let f = is-formed (goal.at.slice_bounds-result-end c).Start in
     let r = live_runs c.args.n c.args.card.now f in
-    omega (arith, front_long (goal.at.slice_bounds-result-end c).After-live_front-front, c.live_len.ensures, r.size, f.size, f.len_in)
+    omega (
+      arith,
+      front_long (goal.at.slice_bounds-result-end c).After-live_front-front,
+      c.live_len.ensures,
+      r.size,
+      f.size,
+      f.len_in,
+    )
 
 pub returns : goal.returns
 returns c =

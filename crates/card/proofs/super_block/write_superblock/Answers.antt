@@ -11,5 +11,6 @@ pub returns : goal.returns
 returns c =
     superblock_written c.args.block.now c.args.start c.args.len c.requires c.super_fields-fields.result
     c.copy_from_slice.new.self c.zero_fill.new.dst c.checksum-sum.result
-    _ c.super_fields-fields.ensures c.copy_from_slice.ensures.after (c.zero_fill.ensures ∙ zeros_are _) c.checksum-sum.ensures
+    _ c.super_fields-fields.ensures c.copy_from_slice.ensures.after
+    (c.zero_fill.ensures ∙ zeros_are _) c.checksum-sum.ensures
     (put_mid_front _ c.checksum-sum.result _ 32 c.copy_from_slice-2.ensures.after (search rules))

@@ -18,4 +18,5 @@ bounds-answer-1 c =
 
 pub returns : goal.returns
 returns c =
-    let told = stored (c.args.u ∷ c.args.v ∷ c.args.w ∷ []) c.args.answer.now c.if-answer-lt3.false in record { value = told.0; answer_new = told.1 }
+    let told = stored (c.args.u ∷ c.args.v ∷ c.args.w ∷ []) c.args.answer.now c.if-answer-lt3.false in
+    record { value = told.0; answer_new = told.1 }

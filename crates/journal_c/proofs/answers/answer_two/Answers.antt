@@ -11,4 +11,5 @@ returns-then-answer-lt2 c =
 
 pub returns : goal.returns
 returns c =
-    let told = stored (c.args.v ∷ c.args.w ∷ []) c.args.answer.now c.if-answer-lt2.false in record { value = told.0; answer_new = told.1 }
+    let told = stored (c.args.v ∷ c.args.w ∷ []) c.args.answer.now c.if-answer-lt2.false in
+    record { value = told.0; answer_new = told.1 }

@@ -21,7 +21,8 @@ overflow_add-result c =
 pub returns-in-Blocks : goal.returns-in-Blocks
 returns-in-Blocks c =
     let told = also (λ (t : BlocksAnswer). into number_words (blocks_outcome t)) _ c.args.told c.args.answer.now _ _
-    (sym c.in-Blocks.is) (c.answer_one.ensures.value, c.answer_one.ensures.answer_new) in record { value = told.0; answer_new = told.1 }
+    (sym c.in-Blocks.is) (c.answer_one.ensures.value, c.answer_one.ensures.answer_new) in
+    record { value = told.0; answer_new = told.1 }
 
 pub returns-in-ChecksumDiffers : goal.returns-in-ChecksumDiffers
 returns-in-ChecksumDiffers c =

@@ -21,12 +21,14 @@ overflow_add-result c =
 pub returns-in-Made : goal.returns-in-Made
 returns-in-Made c =
     let told = also (λ (t : Stored). into test_words (stored_outcome t)) _ c.args.told c.args.answer.now _ _
-    (sym c.in-Made.is) (c.answer_one.ensures.value, c.answer_one.ensures.answer_new) in record { value = told.0; answer_new = told.1 }
+    (sym c.in-Made.is) (c.answer_one.ensures.value, c.answer_one.ensures.answer_new) in
+    record { value = told.0; answer_new = told.1 }
 
 pub returns-in-NoneLeft : goal.returns-in-NoneLeft
 returns-in-NoneLeft c =
     let told = also (λ (t : Stored). into test_words (stored_outcome t)) _ c.args.told c.args.answer.now _ _
-    (sym c.in-NoneLeft.is) (c.answer_one-in-NoneLeft.ensures.value, c.answer_one-in-NoneLeft.ensures.answer_new) in record { value = told.0; answer_new = told.1 }
+    (sym c.in-NoneLeft.is) (c.answer_one-in-NoneLeft.ensures.value, c.answer_one-in-NoneLeft.ensures.answer_new) in
+    record { value = told.0; answer_new = told.1 }
 
 pub returns-in-ChecksumDiffers : goal.returns-in-ChecksumDiffers
 returns-in-ChecksumDiffers c =

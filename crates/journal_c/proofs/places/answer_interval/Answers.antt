@@ -10,11 +10,14 @@ use Rattle.journal_c.proofs.places.answer_interval.Goals as goal
 
 pub returns-in-Interval : goal.returns-in-Interval
 returns-in-Interval c =
-    let a = c.args in let told = also (λ (t : IntervalAnswer). into interval_words (interval_outcome t)) _ a.told a.answer.now _ _
-    (sym c.in-Interval.is) (c.answer_two.ensures.value, c.answer_two.ensures.answer_new) in record { value = told.0; answer_new = told.1 }
+    let a = c.args in let told =
+    also (λ (t : IntervalAnswer). into interval_words (interval_outcome t)) _ a.told a.answer.now _ _
+    (sym c.in-Interval.is) (c.answer_two.ensures.value, c.answer_two.ensures.answer_new) in
+    record { value = told.0; answer_new = told.1 }
 
 pub returns-in-Refused : goal.returns-in-Refused
 returns-in-Refused c =
-    let a = c.args in let told = also (λ (t : IntervalAnswer). into interval_words (interval_outcome t)) _ a.told a.answer.now _ _
+    let a = c.args in let told =
+    also (λ (t : IntervalAnswer). into interval_words (interval_outcome t)) _ a.told a.answer.now _ _
     (sym c.in-Refused.is)
     (c.number.ensures, refl) in record { value = told.0; answer_new = told.1 }

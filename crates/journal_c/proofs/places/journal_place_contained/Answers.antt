@@ -8,4 +8,5 @@ use Rattle.journal_c.proofs.places.journal_place_contained.Goals as goal
 pub returns : goal.returns
 returns c =
     let told = also (into test_words) _ _ c.args.answer.now _ _
-    c.subinterval-told.ensures (c.answer_test.ensures.value, c.answer_test.ensures.answer_new) in record { value = told.0; answer_new = told.1 }
+    c.subinterval-told.ensures (c.answer_test.ensures.value, c.answer_test.ensures.answer_new) in
+    record { value = told.0; answer_new = told.1 }

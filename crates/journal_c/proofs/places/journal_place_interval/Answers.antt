@@ -9,4 +9,5 @@ pub returns : goal.returns
 returns c =
     let told = also (into interval_words) _ _ c.args.answer.now _ _
     c.journal_interval_of_location-told.ensures
-    (c.answer_interval.ensures.value, c.answer_interval.ensures.answer_new) in record { value = told.0; answer_new = told.1 }
+    (c.answer_interval.ensures.value, c.answer_interval.ensures.answer_new) in
+    record { value = told.0; answer_new = told.1 }

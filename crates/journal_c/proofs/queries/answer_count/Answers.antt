@@ -17,4 +17,5 @@ returns-in-Refused c =
 pub returns-in-Of : goal.returns-in-Of
 returns-in-Of c =
     let a = c.args in let told = also (λ (n : Count). into number_words (count_outcome n)) _ a.count a.answer.now _ _
-    (sym c.in-Of.is) (c.answer_one.ensures.value, c.answer_one.ensures.answer_new) in record { value = told.0; answer_new = told.1 }
+    (sym c.in-Of.is) (c.answer_one.ensures.value, c.answer_one.ensures.answer_new) in
+    record { value = told.0; answer_new = told.1 }

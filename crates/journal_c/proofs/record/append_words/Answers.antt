@@ -12,4 +12,5 @@ pub returns-in-Of : goal.returns-in-Of
 returns-in-Of c =
     let told = changed_lent c.args.words.now _ c.decode.ensures _ c.args.ring.now _ _
     c.append.result _ _ _ c.in-Of.is
-    c.append.ensures.result_value c.append.ensures.ring_new (c.put.ensures.value, c.put.ensures.words_new) in record { value = told.0; words_new = told.1.0; ring_new = told.1.1 }
+    c.append.ensures.result_value c.append.ensures.ring_new (c.put.ensures.value, c.put.ensures.words_new) in
+    record { value = told.0; words_new = told.1.0; ring_new = told.1.1 }

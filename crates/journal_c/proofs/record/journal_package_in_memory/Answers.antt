@@ -16,4 +16,5 @@ returns-in-Of c =
     let told = changed_lent c.args.words.now _ c.decode.ensures _ c.args.out.now _ _
     c.record_of.result _ _ _ c.in-Of.is
     (c.record_of.ensures ∙ ap (into record_of) c.package_in_memory_journal.ensures.result_value)
-    c.package_in_memory_journal.ensures.out_new (c.put.ensures.value, c.put.ensures.words_new) in record { value = told.0; words_new = told.1.0; out_new = told.1.1 }
+    c.package_in_memory_journal.ensures.out_new (c.put.ensures.value, c.put.ensures.words_new) in
+    record { value = told.0; words_new = told.1.0; out_new = told.1.1 }

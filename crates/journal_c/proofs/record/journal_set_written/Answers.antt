@@ -5,7 +5,8 @@ use Rattle.journal_c.proofs.record.journal_set_written.Goals as goal
 
 pub returns-in-Damaged : goal.returns-in-Damaged
 returns-in-Damaged c =
-    let told = damaged c.args.words.now _ c.decode.ensures _ _ c.in-Damaged.is c.number.ensures in record { value = told.0; words_new = told.1 }
+    let told = damaged c.args.words.now _ c.decode.ensures _ _ c.in-Damaged.is c.number.ensures in
+    record { value = told.0; words_new = told.1 }
 
 pub returns-in-Of : goal.returns-in-Of
 returns-in-Of c =

@@ -12,4 +12,6 @@ pub returns-in-Of : goal.returns-in-Of
 returns-in-Of c =
     let told = changed_lent c.args.words.now _ c.decode.ensures _ c.args.replay.now _ _
     c.parse_journals.result _ _ _ c.in-Of.is
-    c.parse_journals.ensures.result_value c.parse_journals.ensures.replay_new (c.put.ensures.value, c.put.ensures.words_new) in record { value = told.0; words_new = told.1.0; replay_new = told.1.1 }
+    c.parse_journals.ensures.result_value c.parse_journals.ensures.replay_new
+    (c.put.ensures.value, c.put.ensures.words_new) in
+    record { value = told.0; words_new = told.1.0; replay_new = told.1.1 }

@@ -12,4 +12,5 @@ pub returns-in-Of : goal.returns-in-Of
 returns-in-Of c =
     let told = changed_lent c.args.words.now _ c.decode.ensures _ c.args.back.now _ _
     c.set_back.result _ _ _ c.in-Of.is
-    c.set_back.ensures.result_value c.set_back.ensures.back_new (c.put.ensures.value, c.put.ensures.words_new) in record { value = told.0; words_new = told.1.0; back_new = told.1.1 }
+    c.set_back.ensures.result_value c.set_back.ensures.back_new (c.put.ensures.value, c.put.ensures.words_new) in
+    record { value = told.0; words_new = told.1.0; back_new = told.1.1 }

@@ -12,4 +12,5 @@ pub returns-in-Of : goal.returns-in-Of
 returns-in-Of c =
     let told = changed_lent c.args.words.now _ c.decode.ensures _ c.args.front.now _ _
     c.set_front.result _ _ _ c.in-Of.is
-    c.set_front.ensures.result_value c.set_front.ensures.front_new (c.put.ensures.value, c.put.ensures.words_new) in record { value = told.0; words_new = told.1.0; front_new = told.1.1 }
+    c.set_front.ensures.result_value c.set_front.ensures.front_new (c.put.ensures.value, c.put.ensures.words_new) in
+    record { value = told.0; words_new = told.1.0; front_new = told.1.1 }

@@ -21,7 +21,8 @@ base-so c = passed c.base_hangs.ensures c.if-not-base_hangs.false-raw
 
 together : (c : Else-ring-self) → hangs_together c.args.self ≡ true
 together c =
-    sym (halves_hang _ (passed c.base_hangs.ensures c.if-not-base_hangs.false-raw)) ∙ passed c.thaw_hangs.ensures c.if-not-thaw_hangs.false-raw
+    sym (halves_hang _ (passed c.base_hangs.ensures c.if-not-base_hangs.false-raw))
+    ∙ passed c.thaw_hangs.ensures c.if-not-thaw_hangs.false-raw
 
 hangs : (c : Else-ring-self) → ring_hangs c.args.self c.args.ring.now ≡ true
 hangs c = ring_hung _ c.args.ring.now (together c) c.if-ring-self.false
@@ -32,7 +33,9 @@ counted c = (facts c.args.self (together c)).counts
 fits : (c : Else-second_limit-second) → let a = c.args in
     Fits a.self a.ring.now a.kind a.first.now a.second.now
 fits c = record {
-  hangs = (ring_hung _ c.args.ring.now (sym (halves_hang _ (passed c.base_hangs.ensures c.if-not-base_hangs.false-raw)) ∙ passed c.thaw_hangs.ensures c.if-not-thaw_hangs.false-raw) c.if-ring-self.false);
+  hangs = (ring_hung _ c.args.ring.now
+      (sym (halves_hang _ (passed c.base_hangs.ensures c.if-not-base_hangs.false-raw))
+      ∙ passed c.thaw_hangs.ensures c.if-not-thaw_hangs.false-raw) c.if-ring-self.false);
   first_fits = omega (arith, c.if-first-gt-FIRST_LIMIT.false);
   second_fits = omega (arith, c.second_limit.ensures, c.if-second_limit-second.false);
 }
@@ -40,7 +43,8 @@ fits c = record {
 pub returns-then-not-base_hangs : goal.returns-then-not-base_hangs
 returns-then-not-base_hangs c =
     let a = c.args in let told = answers_2 a.self a.ring.now a.kind a.first.now a.second.now
-    (ring_unhung _ a.ring.now (base_unhung _ (failed c.base_hangs.ensures c.if-not-base_hangs.true-raw))) in record { result_value = told.0; ring_new = told.1 }
+    (ring_unhung _ a.ring.now (base_unhung _ (failed c.base_hangs.ensures c.if-not-base_hangs.true-raw))) in
+    record { result_value = told.0; ring_new = told.1 }
 
 pub thaw_hangs-requires : goal.thaw_hangs-requires
 thaw_hangs-requires c = base-so (goal.at.thaw_hangs-requires c).Else-not-base_hangs
@@ -49,7 +53,9 @@ pub returns-then-not-thaw_hangs : goal.returns-then-not-thaw_hangs
 returns-then-not-thaw_hangs c =
     let a = c.args in let told = answers_2 a.self a.ring.now a.kind a.first.now a.second.now
     (ring_unhung _ a.ring.now
-    (sym (halves_hang _ (base-so (goal.at.returns-then-not-thaw_hangs c).Else-not-base_hangs)) ∙ failed c.thaw_hangs.ensures c.if-not-thaw_hangs.true-raw)) in record { result_value = told.0; ring_new = told.1 }
+    (sym (halves_hang _ (base-so (goal.at.returns-then-not-thaw_hangs c).Else-not-base_hangs))
+    ∙ failed c.thaw_hangs.ensures c.if-not-thaw_hangs.true-raw)) in
+    record { result_value = told.0; ring_new = told.1 }
 
 pub returns-then-ring-self : goal.returns-then-ring-self
 returns-then-ring-self c =
@@ -58,14 +64,17 @@ returns-then-ring-self c =
 
 pub returns-then-first-gt-FIRST_LIMIT : goal.returns-then-first-gt-FIRST_LIMIT
 returns-then-first-gt-FIRST_LIMIT c =
-    let a = c.args in let told = answers_3 a.self a.ring.now a.kind a.first.now a.second.now (hangs (goal.at.returns-then-first-gt-FIRST_LIMIT c).Else-ring-self)
+    let a = c.args in let told = answers_3 a.self a.ring.now a.kind a.first.now a.second.now
+    (hangs (goal.at.returns-then-first-gt-FIRST_LIMIT c).Else-ring-self)
     (omega (arith, c.if-first-gt-FIRST_LIMIT.true)) in record { result_value = told.0; ring_new = told.1 }
 
 pub returns-then-second_limit-second : goal.returns-then-second_limit-second
 returns-then-second_limit-second c =
-    let a = c.args in let told = answers_4 a.self a.ring.now a.kind a.first.now a.second.now (hangs (goal.at.returns-then-second_limit-second c).Else-ring-self)
+    let a = c.args in let told = answers_4 a.self a.ring.now a.kind a.first.now a.second.now
+    (hangs (goal.at.returns-then-second_limit-second c).Else-ring-self)
     (omega (arith, c.if-first-gt-FIRST_LIMIT.false))
-    (omega (arith, c.second_limit.ensures, c.if-second_limit-second.true)) in record { result_value = told.0; ring_new = told.1 }
+    (omega (arith, c.second_limit.ensures, c.if-second_limit-second.true)) in
+    record { result_value = told.0; ring_new = told.1 }
 
 pub region_takes-requires : goal.region_takes-requires
 region_takes-requires c = (
@@ -75,8 +84,10 @@ region_takes-requires c = (
 
 pub returns-then-not-region_takes : goal.returns-then-not-region_takes
 returns-then-not-region_takes c =
-    let a = c.args in let told = answers_5 a.self a.ring.now a.kind a.first.now a.second.now (fits (goal.at.returns-then-not-region_takes c).Else-second_limit-second)
-    (failed c.region_takes.ensures c.if-not-region_takes.true-raw) in record { result_value = told.0; ring_new = told.1 }
+    let a = c.args in let told = answers_5 a.self a.ring.now a.kind a.first.now a.second.now
+    (fits (goal.at.returns-then-not-region_takes c).Else-second_limit-second)
+    (failed c.region_takes.ensures c.if-not-region_takes.true-raw) in
+    record { result_value = told.0; ring_new = told.1 }
 
 pub overflow_add-pending : goal.overflow_add-pending
 overflow_add-pending c = omega (arith, counted (goal.at.overflow_add-pending c).Else-ring-self)
@@ -86,8 +97,10 @@ overflow_sub-self c = omega (arith, counted (goal.at.overflow_sub-self c).Else-r
 
 pub returns-then-self-pending : goal.returns-then-self-pending
 returns-then-self-pending c =
-    let a = c.args in let told = answers_6 a.self a.ring.now a.kind a.first.now a.second.now (fits (goal.at.returns-then-self-pending c).Else-second_limit-second)
-    (passed c.region_takes.ensures c.if-not-region_takes.false-raw) (omega (arith, c.if-self-pending.true)) in record { result_value = told.0; ring_new = told.1 }
+    let a = c.args in let told = answers_6 a.self a.ring.now a.kind a.first.now a.second.now
+    (fits (goal.at.returns-then-self-pending c).Else-second_limit-second)
+    (passed c.region_takes.ensures c.if-not-region_takes.false-raw) (omega (arith, c.if-self-pending.true)) in
+    record { result_value = told.0; ring_new = told.1 }
 
 pub overflow_add-result : goal.overflow_add-result
 overflow_add-result c =
@@ -107,7 +120,8 @@ overflow_add-result-3 c =
 
 pub returns : goal.returns
 returns c =
-    let a = c.args in let told = answers_done a.self a.ring.now a.kind a.first.now a.second.now (fits (goal.at.returns c).Else-second_limit-second)
+    let a = c.args in let told = answers_done a.self a.ring.now a.kind a.first.now a.second.now
+    (fits (goal.at.returns c).Else-second_limit-second)
     (passed c.region_takes.ensures c.if-not-region_takes.false-raw) (omega (arith, c.if-self-pending.false))
     c.put_entry.result c.put_entry.new.ring _ c.put_entry.ensures (omega arith)
     c.clones_of.result c.clones_of.ensures in record { result_value = told.0; ring_new = told.1 }

@@ -1,4 +1,4 @@
--- `Journalist::base_hangs` meets its contract: a test that fails is one of `baseHangs`, or follows from it;
+-- `Journalist::base_hangs` meets its contract: a test that fails is one of `base_hangs`, or follows from it;
 -- behind all but the last, the last decides. The ring bounds the lists' bytes, and N the blocks, so no sum or
 -- product wraps. Assumes nothing.
 use mathlib.Core.Bool.{true}
@@ -15,7 +15,8 @@ use Rattle.journalist.proofs.Counts.{range_facts, start_fact, start_true, side_m
 use Rattle.journalist.proofs.Counts.{tests_all, tests_fail, test_fails, blocks_fit, ListsHang, lists_fit}
 use Rattle.journalist.proofs.Counts.{lists_told}
 use Rattle.journalist.proofs.Journalist.base_hangs.Goals as goal
-use Rattle.journalist.proofs.Journalist.base_hangs.Goals.{After-larger-2, Else-not-both_within, Else-not-both_within-2, Else-not-in_range, Else-not-lists_hang}
+use Rattle.journalist.proofs.Journalist.base_hangs.Goals.{After-larger-2, Else-not-both_within, Else-not-both_within-2}
+use Rattle.journalist.proofs.Journalist.base_hangs.Goals.{Else-not-in_range, Else-not-lists_hang}
 
 ranged-so : (c : Else-not-in_range) → in_range c.args.self.blocks c.args.self.ring ≡ true
 ranged-so c = passed c.in_range.ensures c.if-not-in_range.false-raw
@@ -38,7 +39,8 @@ blocks-so c =
 
 lists-so : (c : Else-not-lists_hang) → ListsHang c.args.self
 lists-so c =
-    lists_told c.args.self (leb-true _ _ (passed c.both_within-2.ensures c.if-not-both_within-2.false-raw)) (passed c.lists_hang.ensures c.if-not-lists_hang.false-raw)
+    lists_told c.args.self (leb-true _ _ (passed c.both_within-2.ensures c.if-not-both_within-2.false-raw))
+    (passed c.lists_hang.ensures c.if-not-lists_hang.false-raw)
 
 -- the larger side, by both
 sides : (c : After-larger-2) → let j = c.args.self in
@@ -60,7 +62,8 @@ returns-then-not-both_within c =
 
 pub returns-then-not-both_within-2 : goal.returns-then-not-both_within-2
 returns-then-not-both_within-2 c =
-    test_fails c.args.self (leb (c.args.self.written + c.args.self.held) c.args.self.blocks) (blocks_fit {j = c.args.self}) (failed c.both_within-2.ensures c.if-not-both_within-2.true-raw)
+    test_fails c.args.self (leb (c.args.self.written + c.args.self.held) c.args.self.blocks)
+    (blocks_fit {j = c.args.self}) (failed c.both_within-2.ensures c.if-not-both_within-2.true-raw)
 
 pub lists_hang-requires : goal.lists_hang-requires
 lists_hang-requires c =
@@ -114,8 +117,10 @@ returns c =
       frozen = lists.frozen;
       memory = lists.memory;
       replay = passed c.counts_hang.ensures c.if-not-counts_hang.false-raw;
-      front = side_hangs_lem j.blocks j.front (omega (arith, sides (goal.at.returns c).After-larger-2, c.if-self-larger.false));
-      back = side_hangs_lem j.blocks j.back (omega (arith, sides (goal.at.returns c).After-larger-2, c.if-self-larger.false));
+      front = side_hangs_lem j.blocks j.front
+          (omega (arith, sides (goal.at.returns c).After-larger-2, c.if-self-larger.false));
+      back = side_hangs_lem j.blocks j.back
+          (omega (arith, sides (goal.at.returns c).After-larger-2, c.if-self-larger.false));
       clones = t;
     }))
     (λ h. (tests j h).clones)

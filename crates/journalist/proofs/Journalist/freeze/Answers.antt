@@ -1,4 +1,4 @@
--- `freeze` meets its contract: each return is the row of `freezeCall` that its test leads to, and the sums stay
+-- `freeze` meets its contract: each return is the row of `freeze_call` that its test leads to, and the sums stay
 -- small by what the test tells of the counts. Assumes nothing.
 use mathlib.Core.Bool.{true}
 use mathlib.Core.Path.{◌≡◌}
@@ -63,4 +63,8 @@ overflow_add-result-3 c =
 pub returns : goal.returns
 unfolding freeze_call frozen_record
 returns c =
-    simp (hangs (goal.at.returns c).Else-not-hangs_together, more (goal.at.returns c).After-blocks_for-more, c.last_freeze-last.ensures)
+    simp (
+      hangs (goal.at.returns c).Else-not-hangs_together,
+      more (goal.at.returns c).After-blocks_for-more,
+      c.last_freeze-last.ensures,
+    )

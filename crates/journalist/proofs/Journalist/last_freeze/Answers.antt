@@ -1,4 +1,4 @@
--- `Journalist::last_freeze` meets its contract: each return is one case of `lastFreeze`. Assumes nothing.
+-- `Journalist::last_freeze` meets its contract: each return is one case of `last_freeze`. Assumes nothing.
 use borrow.Author.Tests.{eq-eqb, ne_eqb}
 use Rattle.journalist.proofs.Journalist.last_freeze.Goals as goal
 

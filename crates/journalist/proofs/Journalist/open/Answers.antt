@@ -1,4 +1,4 @@
--- `open` meets its contract: each return is the row of `openCall` that its tests lead to.
+-- `open` meets its contract: each return is the row of `open_call` that its tests lead to.
 -- Assumes nothing.
 use borrow.Author.Tests.{le-leb, lt-leb}
 use Rattle.refusals.proofs.Tests.{passed, failed}

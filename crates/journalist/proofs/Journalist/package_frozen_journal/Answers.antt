@@ -1,4 +1,4 @@
--- `package_frozen_journal` meets its contract: each return is the row of `packageFrozenJournalCall` that its tests
+-- `package_frozen_journal` meets its contract: each return is the row of `package_frozen_journal_call` that its tests
 -- lead to. Assumes nothing.
 use mathlib.Core.Bool.{true, not}
 use mathlib.Core.Path.{◌≡◌, ap}
@@ -25,7 +25,8 @@ read : (c : In-InLists) → (ring_reads c.args.self c.args.ring.now ≡ true)
     × (c.in-InLists.of_frozen ≡ frozen_clones c.args.self c.args.ring.now)
 unfolding frozen_read memory_read
 read c =
-    let t = ring_read c.args.self c.args.ring.now c.ring_reads-read.result c.ring_reads-read.ensures _ _ c.in-InLists.is in (t.0, t.1)
+    let t = ring_read c.args.self c.args.ring.now c.ring_reads-read.result c.ring_reads-read.ensures _ _
+    c.in-InLists.is in (t.0, t.1)
 
 -- behind all of them
 taken : (c : Else-out-blocks) → FrozenTaken c.args.self c.args.ring.now c.args.out.now
@@ -35,21 +36,38 @@ taken c =
       hangs = (passed c.ring_hangs.ensures c.if-not-ring_hangs.false-raw);
       some_entries = c.if-self-eq0.false;
       read =
-          (ring_read c.args.self c.args.ring.now c.ring_reads-read.result c.ring_reads-read.ensures _ _ c.in-InLists.is).0;
+          (ring_read c.args.self c.args.ring.now c.ring_reads-read.result c.ring_reads-read.ensures _ _
+          c.in-InLists.is).0;
       room = c.if-out-blocks.false;
     }
 
 pub returns-then-not-ring_hangs : goal.returns-then-not-ring_hangs
 returns-then-not-ring_hangs c =
-    let told = frozen_refused c.args.self c.args.ring.now c.args.out.now 2 (failed c.ring_hangs.ensures c.if-not-ring_hangs.true-raw) in record { result_value = told.0; out_new = told.1 }
+    let told = frozen_refused c.args.self c.args.ring.now c.args.out.now 2
+    (failed c.ring_hangs.ensures c.if-not-ring_hangs.true-raw) in record { result_value = told.0; out_new = told.1 }
 
 pub returns-then-self-eq0 : goal.returns-then-self-eq0
 returns-then-self-eq0 c =
-    let told = frozen_refused c.args.self c.args.ring.now c.args.out.now 8 (hangs (goal.at.returns-then-self-eq0 c).Else-not-ring_hangs, ap not (eq-eqb _ _ c.if-self-eq0.true)) in record { result_value = told.0; out_new = told.1 }
+    let told = frozen_refused c.args.self c.args.ring.now c.args.out.now 8
+    (hangs (goal.at.returns-then-self-eq0 c).Else-not-ring_hangs, ap not (eq-eqb _ _ c.if-self-eq0.true)) in
+    record { result_value = told.0; out_new = told.1 }
 
 pub ring_reads-read-requires : goal.ring_reads-read-requires
 ring_reads-read-requires c =
-    record { start_in_bounds = omega (arith, (ring_told c.args.self c.args.ring.now (hangs (goal.at.ring_reads-read-requires c).Else-not-ring_hangs)).1, counted (goal.at.ring_reads-read-requires c).Else-not-ring_hangs); entries_in_bounds = omega (arith, (ring_told c.args.self c.args.ring.now (hangs (goal.at.ring_reads-read-requires c).Else-not-ring_hangs)).1, counted (goal.at.ring_reads-read-requires c).Else-not-ring_hangs) }
+    record {
+      start_in_bounds = omega (
+        arith,
+        (ring_told c.args.self c.args.ring.now
+            (hangs (goal.at.ring_reads-read-requires c).Else-not-ring_hangs)).1,
+        counted (goal.at.ring_reads-read-requires c).Else-not-ring_hangs,
+      );
+      entries_in_bounds = omega (
+        arith,
+        (ring_told c.args.self c.args.ring.now
+            (hangs (goal.at.ring_reads-read-requires c).Else-not-ring_hangs)).1,
+        counted (goal.at.ring_reads-read-requires c).Else-not-ring_hangs,
+      );
+    }
 
 pub returns-in_default : goal.returns-in_default
 unfolding frozen_read memory_read
@@ -77,7 +95,9 @@ returns-then-out-blocks c =
 
 pub write_batch-requires : goal.write_batch-requires
 write_batch-requires c =
-    let told = frozen_fits c.args.self c.args.ring.now c.args.out.now (taken (goal.at.write_batch-requires c).Else-out-blocks) in record { start_in_bounds = told.0; bytes_bound = told.1.0; entries_bound = told.1.1 }
+    let told = frozen_fits c.args.self c.args.ring.now c.args.out.now
+    (taken (goal.at.write_batch-requires c).Else-out-blocks) in
+    record { start_in_bounds = told.0; bytes_bound = told.1.0; entries_bound = told.1.1 }
 
 pub advanced-start-requires : goal.advanced-start-requires
 advanced-start-requires c =
@@ -93,6 +113,8 @@ overflow_add-result c = omega (arith, counted (goal.at.overflow_add-result c).El
 
 pub returns : goal.returns
 returns c =
-    let told = frozen_done c.args.self c.args.ring.now c.args.out.now (taken (goal.at.returns c).Else-out-blocks) _ c.advanced-start.result _
+    let told = frozen_done c.args.self c.args.ring.now c.args.out.now
+    (taken (goal.at.returns c).Else-out-blocks) _ c.advanced-start.result _
     (λ i. (c.shared_slice_known-1.given i).fits)
-    c.write_batch.ensures c.advanced-start.ensures (read (goal.at.returns c).In-InLists).1 in record { result_value = told.0; out_new = told.1 }
+    c.write_batch.ensures c.advanced-start.ensures (read (goal.at.returns c).In-InLists).1 in
+    record { result_value = told.0; out_new = told.1 }

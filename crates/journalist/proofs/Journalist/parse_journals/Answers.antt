@@ -1,5 +1,5 @@
 -- `parse_journals` meets its contract: the recorded blocks lie in the lent sides, and each answer of `load` is a
--- row of `parseJournalsCall`. Assumes nothing.
+-- row of `parse_journals_call`. Assumes nothing.
 use mathlib.Core.Bool.{true}
 use mathlib.Core.Path.{◌≡◌, sym, ◌∙◌}
 use Prim.Native.Nat.{◌*◌, ◌-◌}
@@ -29,7 +29,8 @@ answered c r e =
     let a = c.args in
     load_told a.self a.front.now a.back.now a.replay.now (4064 * c.side_blocks-f.result - 0)
     (4064 * c.side_blocks-b.result - 0) (passed c.sides_hang.ensures c.if-not-sides_hang.false-raw)
-    (omega (arith, c.side_blocks-f.ensures)) (omega (arith, c.side_blocks-b.ensures)) r (sym e ∙ c.load-read.ensures.answer) _ c.load-read.ensures.buffer
+    (omega (arith, c.side_blocks-f.ensures)) (omega (arith, c.side_blocks-b.ensures)) r
+    (sym e ∙ c.load-read.ensures.answer) _ c.load-read.ensures.buffer
 
 pub returns-then-not-sides_hang : goal.returns-then-not-sides_hang
 returns-then-not-sides_hang c =
@@ -54,11 +55,13 @@ slice_bounds-load-end-2 c =
 
 pub returns-in-Unreadable : goal.returns-in-Unreadable
 returns-in-Unreadable c =
-    let told = answered (goal.at.returns-in-Unreadable c).After-load-read Unreadable c.in-Unreadable.is in record { result_value = told.0; replay_new = told.1 }
+    let told = answered (goal.at.returns-in-Unreadable c).After-load-read Unreadable c.in-Unreadable.is in
+    record { result_value = told.0; replay_new = told.1 }
 
 pub returns-in-Short : goal.returns-in-Short
 returns-in-Short c =
-    let told = answered (goal.at.returns-in-Short c).After-load-read Short c.in-Short.is in record { result_value = told.0; replay_new = told.1 }
+    let told = answered (goal.at.returns-in-Short c).After-load-read Short c.in-Short.is in
+    record { result_value = told.0; replay_new = told.1 }
 
 pub returns-in-Loaded : goal.returns-in-Loaded
 returns-in-Loaded c =

@@ -14,7 +14,8 @@ base-so c = passed c.base_hangs.ensures c.if-not-base_hangs.false-raw
 
 hangs : (c : Else-not-thaw_hangs) → hangs_together c.args.self ≡ true
 hangs c =
-    sym (halves_hang _ (passed c.base_hangs.ensures c.if-not-base_hangs.false-raw)) ∙ passed c.thaw_hangs.ensures c.if-not-thaw_hangs.false-raw
+    sym (halves_hang _ (passed c.base_hangs.ensures c.if-not-base_hangs.false-raw))
+    ∙ passed c.thaw_hangs.ensures c.if-not-thaw_hangs.false-raw
 
 pub returns-then-not-base_hangs : goal.returns-then-not-base_hangs
 returns-then-not-base_hangs c =
@@ -26,11 +27,13 @@ thaw_hangs-requires c = base-so (goal.at.thaw_hangs-requires c).Else-not-base_ha
 pub returns-then-not-thaw_hangs : goal.returns-then-not-thaw_hangs
 returns-then-not-thaw_hangs c =
     pop_unhung _ _
-    (sym (halves_hang _ (base-so (goal.at.returns-then-not-thaw_hangs c).Else-not-base_hangs)) ∙ failed c.thaw_hangs.ensures c.if-not-thaw_hangs.true-raw)
+    (sym (halves_hang _ (base-so (goal.at.returns-then-not-thaw_hangs c).Else-not-base_hangs))
+    ∙ failed c.thaw_hangs.ensures c.if-not-thaw_hangs.true-raw)
 
 pub returns-in-Refused : goal.returns-in-Refused
 returns-in-Refused c =
-    pop_refused _ _ (hangs (goal.at.returns-in-Refused c).Else-not-thaw_hangs) c.pop.result c.pop.ensures _ c.in-Refused.is
+    pop_refused _ _ (hangs (goal.at.returns-in-Refused c).Else-not-thaw_hangs) c.pop.result c.pop.ensures _
+    c.in-Refused.is
 
 pub returns-in-Done : goal.returns-in-Done
 returns-in-Done c =

@@ -1,4 +1,4 @@
--- `set_side` meets its contract: each return is the row of `setSideCall` that its tests lead to, and the last
+-- `set_side` meets its contract: each return is the row of `set_side_call` that its tests lead to, and the last
 -- copies the payload. Assumes nothing.
 use mathlib.Core.Bool.{true}
 use mathlib.Core.Path.{◌≡◌}
@@ -19,16 +19,22 @@ hangs c = passed c.hangs_together.ensures c.if-not-hangs_together.false-raw
 pub returns-then-not-hangs_together : goal.returns-then-not-hangs_together
 returns-then-not-hangs_together c =
     let a = c.args in let told = side_refused a.self a.payload.now a.buffer.now 2
-    (failed c.hangs_together.ensures c.if-not-hangs_together.true-raw) in record { result_value = told.0; buffer_new = told.1 }
+    (failed c.hangs_together.ensures c.if-not-hangs_together.true-raw) in
+    record { result_value = told.0; buffer_new = told.1 }
 
 pub returns-then-payload-ne0 : goal.returns-then-payload-ne0
 returns-then-payload-ne0 c =
-    let a = c.args in let told = side_refused a.self a.payload.now a.buffer.now 13 (hangs (goal.at.returns-then-payload-ne0 c).Else-not-hangs_together, whole_ragged _ _ c.if-payload-ne0.true) in record { result_value = told.0; buffer_new = told.1 }
+    let a = c.args in let told = side_refused a.self a.payload.now a.buffer.now 13
+    (hangs (goal.at.returns-then-payload-ne0 c).Else-not-hangs_together, whole_ragged _ _ c.if-payload-ne0.true)
+    in record { result_value = told.0; buffer_new = told.1 }
 
 pub returns-then-self-payload : goal.returns-then-self-payload
 returns-then-self-payload c =
-    let a = c.args in let told = side_refused a.self a.payload.now a.buffer.now 13
-    (hangs (goal.at.returns-then-self-payload c).Else-not-hangs_together, whole_long _ a.payload.now (omega (arith, c.if-self-payload.true))) in record { result_value = told.0; buffer_new = told.1 }
+    let a = c.args in let told = side_refused a.self a.payload.now a.buffer.now 13 (
+      hangs (goal.at.returns-then-self-payload c).Else-not-hangs_together,
+      whole_long _ a.payload.now (omega (arith, c.if-self-payload.true)),
+    ) in
+    record { result_value = told.0; buffer_new = told.1 }
 
 pub returns-then-buffer-payload : goal.returns-then-buffer-payload
 returns-then-buffer-payload c =
@@ -50,4 +56,5 @@ returns c =
       in_region = omega (arith, c.if-self-payload.false);
       room = omega (arith, c.if-buffer-payload.false);
     } in let told = side_copied a.self a.payload.now a.buffer.now taken _
-    (put_mid_front a.buffer.now a.payload.now _ _ c.copy_from_slice.ensures.after (omega arith)) in record { result_value = told.0; buffer_new = told.1 }
+    (put_mid_front a.buffer.now a.payload.now _ _ c.copy_from_slice.ensures.after (omega arith)) in
+    record { result_value = told.0; buffer_new = told.1 }

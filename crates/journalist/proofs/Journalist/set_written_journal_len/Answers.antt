@@ -1,4 +1,4 @@
--- `set_written_journal_len` meets its contract: each return is the row of `setWrittenJournalLenCall` that its tests
+-- `set_written_journal_len` meets its contract: each return is the row of `set_written_journal_len_call` that its tests
 -- lead to. Assumes nothing.
 use mathlib.Core.Bool.{true}
 use mathlib.Core.Path.{◌≡◌}

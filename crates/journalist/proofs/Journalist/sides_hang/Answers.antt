@@ -1,4 +1,4 @@
--- `sides_hang` meets its contract: the tests of `sidesHang` one by one.
+-- `sides_hang` meets its contract: the tests of `sides_hang` one by one.
 -- Assumes nothing.
 use Rattle.refusals.proofs.Tests.{passed, failed}
 use Rattle.journalist.proofs.Recovering.{sides_uncounted, sides_front_short, sides_back}

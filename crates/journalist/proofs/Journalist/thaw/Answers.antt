@@ -1,4 +1,4 @@
--- `Journalist::thaw` meets its contract: each return is the row of `thawCall` that its tests lead to. Assumes nothing.
+-- `Journalist::thaw` meets its contract: each return is the row of `thaw_call` that its tests lead to. Assumes nothing.
 use mathlib.Core.Bool.{true}
 use mathlib.Core.Path.{◌≡◌}
 use borrow.Author.Tests.{eq-eqb, ne_eqb}
@@ -26,7 +26,11 @@ pub thawed-thawed-requires : goal.thawed-thawed-requires
 thawed-thawed-requires c =
     let j = c.args.self in
     let h = hangs (goal.at.thawed-thawed-requires c).Else-not-hangs_together in
-    let l = last_facts j h in record { self_value = base_hangs_lem j h; entries_le_entries = (l.entries_in, l.bytes_in); blocks_le_held = l.blocks_in }
+    let l = last_facts j h in record {
+      self_value = base_hangs_lem j h;
+      entries_le_entries = (l.entries_in, l.bytes_in);
+      blocks_le_held = l.blocks_in;
+    }
 
 pub returns : goal.returns
 unfolding thaw_call

@@ -27,7 +27,11 @@ returns-then-self-3 c =
 
 pub thawed-thawed-requires : goal.thawed-thawed-requires
 thawed-thawed-requires c =
-    record { self_value = c.requires; entries_le_entries = (c.if-self.false, c.if-self-2.false); blocks_le_held = c.if-self-3.false }
+    record {
+      self_value = c.requires;
+      entries_le_entries = (c.if-self.false, c.if-self-2.false);
+      blocks_le_held = c.if-self-3.false;
+    }
 
 pub lists_hang-requires : goal.lists_hang-requires
 lists_hang-requires c =

@@ -1,4 +1,4 @@
--- `update_written_journal_len` meets its contract: each return is the row of `updateWrittenJournalLenCall` that its
+-- `update_written_journal_len` meets its contract: each return is the row of `update_written_journal_len_call` that its
 -- tests lead to. Assumes nothing.
 use mathlib.Core.Bool.{true}
 use mathlib.Core.Path.{◌≡◌}

@@ -29,7 +29,8 @@ clones_read-first-requires c = omega (arith, c.requires)
 
 pub returns-in_default : goal.returns-in_default
 returns-in_default c =
-    no_frozen_read (frozen-of (goal.at.returns-in_default c).Start) (memory-of (goal.at.returns-in_default c).Start) c.args.clones c.clones_read-first.result
+    no_frozen_read (frozen-of (goal.at.returns-in_default c).Start)
+    (memory-of (goal.at.returns-in_default c).Start) c.args.clones c.clones_read-first.result
     c.clones_read-first.ensures
     c.in_default.is
 
@@ -38,7 +39,9 @@ clones_read-second-requires c = omega (arith, c.requires)
 
 pub returns-in_default-second : goal.returns-in_default-second
 returns-in_default-second c =
-    no_memory_read (frozen-of (goal.at.returns-in_default-second c).Start) (memory-of (goal.at.returns-in_default-second c).Start) c.args.clones _ c.clones_read-first.result c.clones_read-second.result c.clones_read-first.ensures
+    no_memory_read (frozen-of (goal.at.returns-in_default-second c).Start)
+    (memory-of (goal.at.returns-in_default-second c).Start) c.args.clones _ c.clones_read-first.result
+    c.clones_read-second.result c.clones_read-first.ensures
     c.clones_read-second.ensures
     c.in-Clones.is c.in_default-second.is
 
@@ -47,19 +50,24 @@ pub overflow_add-f : goal.overflow_add-f
 overflow_add-f c =
     let f = clones_read_few c.args.frozen.entries _ _ c.clones_read-first.result c.clones_read-first.ensures
     c.in-Clones.is in
-    let m = clones_read_few c.args.memory.entries _ _ c.clones_read-second.result c.clones_read-second.ensures c.in-Clones-second.is in
+    let m = clones_read_few c.args.memory.entries _ _ c.clones_read-second.result c.clones_read-second.ensures
+    c.in-Clones-second.is in
     omega (arith, f, m, c.requires)
 
 pub returns-then-f-m : goal.returns-then-f-m
 returns-then-f-m c =
-    other_clones (frozen-of (goal.at.returns-then-f-m c).Start) (memory-of (goal.at.returns-then-f-m c).Start) c.args.clones _ _ c.clones_read-first.result c.clones_read-second.result c.clones_read-first.ensures
+    other_clones (frozen-of (goal.at.returns-then-f-m c).Start)
+    (memory-of (goal.at.returns-then-f-m c).Start) c.args.clones _ _ c.clones_read-first.result
+    c.clones_read-second.result c.clones_read-first.ensures
     c.clones_read-second.ensures
     c.in-Clones.is c.in-Clones-second.is
     c.if-f-m.true
 
 pub returns : goal.returns
 returns c =
-    same_clones (frozen-of (goal.at.returns c).Start) (memory-of (goal.at.returns c).Start) c.args.clones _ _ c.clones_read-first.result c.clones_read-second.result c.clones_read-first.ensures
+    same_clones (frozen-of (goal.at.returns c).Start)
+    (memory-of (goal.at.returns c).Start) c.args.clones _ _ c.clones_read-first.result
+    c.clones_read-second.result c.clones_read-first.ensures
     c.clones_read-second.ensures
     c.in-Clones.is c.in-Clones-second.is
     c.if-f-m.false

@@ -8,4 +8,5 @@ use Rattle.marshalling.proofs.fill.after.Goals as goal
 pub returns : goal.returns
 returns c =
     let a = c.args in
-    let left = after_least a.s.now a.k c.least-at.result c.least-at.ensures in record { result_value = left; result_len = ap length left ∙ length-drop a.k a.s.now }
+    let left = after_least a.s.now a.k c.least-at.result c.least-at.ensures in
+    record { result_value = left; result_len = ap length left ∙ length-drop a.k a.s.now }

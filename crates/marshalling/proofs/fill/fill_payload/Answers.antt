@@ -13,7 +13,9 @@ returns c =
     let a = c.args in
     let m = c.less.ensures in record {
       dst_new = payload_filled a.dst.now a.h.now c.after-front.result.now _ a.from
-          c.after-front.ensures.result_value (omega arith) (put_mid_front a.dst.now c.after-front.result.now _ _ c.copy_from_slice.ensures.after (omega arith)) c.fill_runs.new.dst
+          c.after-front.ensures.result_value (omega arith)
+          (put_mid_front a.dst.now c.after-front.result.now _ _ c.copy_from_slice.ensures.after (omega arith))
+          c.fill_runs.new.dst
           (take a.n (drop a.at (a.a.now ++ a.b.now))) c.less.result (m ∙ omega arith)
           c.fill_runs.ensures.dst_new;
       takes = rw (m, block_on a.from c.requires.dst_len.1) at c.fill_runs.ensures.takes;

@@ -11,7 +11,8 @@ use Rattle.marshalling.proofs.image.write_blocks.Given as goal
 
 abbrev pub invariant-loop-k : goal.invariant-loop-k
 invariant-loop-k l = (l.k ≤ l.blocks) × (length l.out ≡ length l.initial.out) × (l.runs ≤ 4064 * l.k)
-    × (l.out ≡ image_to (padded (4064 * l.blocks) (l.h ++ take l.n (drop l.at (l.a ++ l.b)))) l.k ++ drop (4096 * l.k) l.initial.out)
+    × (l.out ≡ image_to (padded (4064 * l.blocks) (l.h ++ take l.n (drop l.at (l.a ++ l.b)))) l.k
+    ++ drop (4096 * l.k) l.initial.out)
     × Takes l.a l.b l.at l.n 0 (4064 * l.k - 8) l.runs
 
 abbrev pub decreases-loop-k : goal.decreases-loop-k

@@ -20,6 +20,7 @@ returns c =
           c.write_blocks.new.out c.header-words.ensures (omega arith) c.write_blocks.ensures.out_new;
       value = (takes_all a.a.now a.b.now a.at a.n c.requires.n_in_bounds (4064 * a.blocks - 8) c.write_blocks.result
           (omega arith) c.write_blocks.ensures.takes).0;
-      upper_bound = (takes_all a.a.now a.b.now a.at a.n c.requires.n_in_bounds (4064 * a.blocks - 8) c.write_blocks.result
+      upper_bound =
+          (takes_all a.a.now a.b.now a.at a.n c.requires.n_in_bounds (4064 * a.blocks - 8) c.write_blocks.result
           (omega arith) c.write_blocks.ensures.takes).1;
     }

@@ -1,4 +1,4 @@
--- `top_entry` meets its contract: each return is the row of `topThen` that its tests lead to.
+-- `top_entry` meets its contract: each return is the row of `top_then` that its tests lead to.
 -- Assumes nothing.
 use mathlib.Core.Bool.{true, not}
 use mathlib.Core.Path.{◌≡◌, sym, ap}
@@ -20,7 +20,8 @@ returns-then-not-lies_in c =
 
 pub returns-then-self-eq0 : goal.returns-then-self-eq0
 returns-then-self-eq0 c =
-    sym ((place_exactly _ _).refused 8 (lies (goal.at.returns-then-self-eq0 c).Else-not-lies_in, ap not (eq-eqb _ _ c.if-self-eq0.true)))
+    sym ((place_exactly _ _).refused 8
+    (lies (goal.at.returns-then-self-eq0 c).Else-not-lies_in, ap not (eq-eqb _ _ c.if-self-eq0.true)))
 
 pub overflow_add-end : goal.overflow_add-end
 overflow_add-end c =
@@ -29,7 +30,8 @@ overflow_add-end c =
 
 pub returns-in-Unreadable : goal.returns-in-Unreadable
 returns-in-Unreadable c =
-    place_unread _ _ (lies (goal.at.returns-in-Unreadable c).Else-not-lies_in) c.if-self-eq0.false _ c.entry_at-read.ensures
+    place_unread _ _ (lies (goal.at.returns-in-Unreadable c).Else-not-lies_in) c.if-self-eq0.false _
+    c.entry_at-read.ensures
     c.in-Unreadable.is
 
 pub returns-in-Read : goal.returns-in-Read
