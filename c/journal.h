@@ -1,5 +1,5 @@
 /* Nungakes for C: a proved journal for tagging units. Link with libjournal_c.a, which `tools/archive journal_c` writes:
- * Linux objects for x86-64 with SSE2, System V calls. It asks its host for memcpy and memset, nothing else.
+ * Linux objects for x86-64 with SSE2, System V calls. It asks its host for memcpy, memmove and memset, nothing else.
  *
  * Every function is proved to meet its contract whatever numbers and bytes it is handed. A slice is a pointer and a
  * count of ELEMENTS. The caller owes only this:
