@@ -7,9 +7,10 @@ ghost use Rattle.lister.specs.Lister.{listed_payload, listed_image};
 
 use journal_image::BlocksAnswer;
 use journal_range::LoadRead;
-use libc::{STDERR_FILENO, STDIN_FILENO, STDOUT_FILENO};
 use listing::Listed;
 use refusals::Refusal;
+use std::io;
+use std::io::Read;
 
 // The text of a payload's entries. The replay buffer takes their wire forms.
 fn list_payload(payload: &[u8], replay: &mut [u8], text: &mut [u8]) -> Listed
@@ -58,38 +59,31 @@ fn list_image(image: &[u8], payload: &mut [u8], replay: &mut [u8], text: &mut [u
 }
 
 // Writes to standard output; where that does not take all, says so on standard error.
-fn say(text: &[u8]) {
-    if !io::write_all(STDOUT_FILENO, text) {
-        io::write_all(STDERR_FILENO, b"lister: the output was not taken\n");
+fn say(rt: &(impl Print + Eprint), text: &[u8]) -> io::Result<()> {
+    if rt.write_all(text).is_err() {
+        return eprintln!(rt; "lister: the output was not taken");
     }
+    Ok(())
 }
 
-fn print(listed: Listed, text: &[u8]) {
+fn print(rt: &(impl Print + Eprint), listed: Listed, text: &[u8]) -> io::Result<()> {
     if let Listed::Text(end) = listed {
         if end <= text.len() {
-            say(&text[0..end]);
+            return say(rt, &text[0..end]);
         }
     }
+    Ok(())
 }
 
-// Whether standard input has ended, and not failed: one more read gives no byte and no error.
-fn at_end() -> bool {
-    let mut more = [0u8; 1];
-    libc::read(STDIN_FILENO, &mut more) == 0
-}
-
-fn main() {
-    let mut image = io::large_buffer();
-    let n = io::read_full(STDIN_FILENO, &mut image);
-    if n < 65536 {
-        if !at_end() {
-            say(b"unread\n");
-            return;
-        }
+// More than 61,440 bytes are refused, so nothing beyond 65,536 is read.
+fn main(rt: HostRuntime) -> io::Result<()> {
+    let mut image = Vec::with_capacity(rt.alloc(), 65536)?;
+    if rt.stdin().take(65536).read_to_end(&mut image).is_err() {
+        return say(&rt, b"unread\n");
     }
-    let mut payload = [0u8; 60960];
-    let mut replay = [0u8; 60960];
-    let mut text = [0u8; 121952];
-    let listed = list_image(&image[..n], &mut payload, &mut replay, &mut text);
-    print(listed, &text);
+    let mut payload = vec![in rt.alloc(); 0u8; 60960]?;
+    let mut replay = vec![in rt.alloc(); 0u8; 60960]?;
+    let mut text = vec![in rt.alloc(); 0u8; 121952]?;
+    let listed = list_image(&image, &mut payload, &mut replay, &mut text);
+    print(&rt, listed, &text)
 }
