@@ -2,7 +2,7 @@
 // the input cannot be read it prints `unread`.
 #![tactic(auto)]
 
-ghost use Rattle.std.specs.Prelude.{◌≡◌, length};
+ghost use Rattle.std.specs.Prelude.{◌≡◌, ◌≤◌, IfOk, length};
 ghost use Rattle.lister.specs.Lister.{listed_payload, listed_image};
 
 use journal_image::BlocksAnswer;
@@ -75,15 +75,30 @@ fn print(rt: &(impl Print + Eprint), listed: Listed, text: &[u8]) -> io::Result<
     Ok(())
 }
 
+// Reads until the buffer is full or the input ends, and gives the bytes read.
+fn read_full<R: Read>(input: &mut R, buffer: &mut [u8]) -> io::Result<usize>
+    ensures { IfOk result (λ n. n ≤ length buffer.new) }
+{
+    let mut done = 0;
+    while done < buffer.len() {
+        let n = input.read(&mut buffer[done..])?;
+        if n == 0 {
+            return Ok(done);
+        }
+        done += n;
+    }
+    Ok(done)
+}
+
 // More than 61,440 bytes are refused, so nothing beyond 65,536 is read.
 fn main(rt: HostRuntime) -> io::Result<()> {
-    let mut image = Vec::with_capacity(rt.alloc(), 65536)?;
-    if rt.stdin().take(65536).read_to_end(&mut image).is_err() {
+    let mut image = [0u8; 65536];
+    let Ok(n) = read_full(&mut rt.stdin(), &mut image) else {
         return say(&rt, b"unread\n");
-    }
-    let mut payload = vec![in rt.alloc(); 0u8; 60960]?;
-    let mut replay = vec![in rt.alloc(); 0u8; 60960]?;
-    let mut text = vec![in rt.alloc(); 0u8; 121952]?;
-    let listed = list_image(&image, &mut payload, &mut replay, &mut text);
+    };
+    let mut payload = [0u8; 60960];
+    let mut replay = [0u8; 60960];
+    let mut text = [0u8; 121952];
+    let listed = list_image(&image[..n], &mut payload, &mut replay, &mut text);
     print(&rt, listed, &text)
 }
