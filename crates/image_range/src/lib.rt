@@ -1,7 +1,7 @@
 // A journal image read where it lies: two lent slices joined, a ++ b, of whole blocks of 4,096 bytes, 32 of
 // checksum and 4,064 of payload. (A cyclic run of blocks is at most two runs; an image that lies in one slice is
 // that slice and nothing.) Nothing is copied: the readers look at length words alone. Their promises are over
-// `imagePayload`, the payload of all blocks, in the definitions of those that read payload.
+// `image_payload`, the payload of all blocks, in the definitions of those that read payload.
 #![tactic(auto)]
 
 ghost use Rattle.std.specs.Prelude.{◌≡◌, ◌++◌, ◌+◌, ◌*◌, ◌/◌, ◌<◌, length, drop, get_or};

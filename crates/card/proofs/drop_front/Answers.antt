@@ -9,12 +9,12 @@ use Rattle.card.proofs.Formed.{Formed, formed_told}
 use Rattle.card.proofs.drop_front.Goals as goal
 use Rattle.card.proofs.drop_front.Goals.{After-block_on-next, Start}
 
-is-formed : (s : Start) → Formed s.args.n s.args.card.now
-is-formed s = formed_told s.args.n s.args.card.now s.requires.1
+is_formed : (s : Start) → Formed s.args.n s.args.card.now
+is_formed s = formed_told s.args.n s.args.card.now s.requires.1
 
 -- the new start is a block of the region
-next-in : (c : After-block_on-next) → c.block_on-next.result < c.args.n
-next-in c =
+next_in : (c : After-block_on-next) → c.block_on-next.result < c.args.n
+next_in c =
     let f = (formed_told c.args.n c.args.card.now c.requires.1) in
     let below : c.live_start-start.result < c.args.n = omega (arith, f.start_in, c.live_start-start.ensures) in
     omega (
@@ -25,14 +25,14 @@ next-in c =
 
 pub overflow_cast-dropped : goal.overflow_cast-dropped
 overflow_cast-dropped c =
-    omega (arith, (is-formed (goal.at.overflow_cast-dropped c).Start).len_in, c.requires)
+    omega (arith, (is_formed (goal.at.overflow_cast-dropped c).Start).len_in, c.requires)
 
 pub overflow_cast-next : goal.overflow_cast-next
 overflow_cast-next c =
-    omega (arith, next-in (goal.at.overflow_cast-next c).After-block_on-next, c.requires)
+    omega (arith, next_in (goal.at.overflow_cast-next c).After-block_on-next, c.requires)
 
 pub rewrite-requires : goal.rewrite-requires
-rewrite-requires c = omega (arith, (is-formed (goal.at.rewrite-requires c).Start).size)
+rewrite-requires c = omega (arith, (is_formed (goal.at.rewrite-requires c).Start).size)
 
 pub returns : goal.returns
 returns c =

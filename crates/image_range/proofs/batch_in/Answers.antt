@@ -16,9 +16,9 @@ use Rattle.image_range.proofs.batch_in.Goals.{After-entries_in-walk, Start}
 abbrev payload : Start → List ℕ
 payload c = image_payload (c.args.a.now ++ c.args.b.now)
 
-long-payload : (c : Start) → length (payload c)
+long_payload : (c : Start) → length (payload c)
     ≡ 4064 * ((length c.args.a.now + length c.args.b.now) / 4096)
-long-payload c = length_joined c.args.a.now c.args.b.now
+long_payload c = length_joined c.args.a.now c.args.b.now
 
 headed : (c : After-entries_in-walk) → Headed (image_payload (c.args.a.now ++ c.args.b.now))
 headed c = omega (arith, (length_joined c.args.a.now c.args.b.now), c.word_at-blocks.ensures)
@@ -36,17 +36,17 @@ walked c =
 pub returns-then-len-lt8 : goal.returns-then-len-lt8
 returns-then-len-lt8 c =
     answer_none (payload (goal.at.returns-then-len-lt8 c).Start)
-    (λ h. omega (arith, long-payload (goal.at.returns-then-len-lt8 c).Start))
+    (λ h. omega (arith, long_payload (goal.at.returns-then-len-lt8 c).Start))
 
 pub returns-then-blocks-lt1 : goal.returns-then-blocks-lt1
 returns-then-blocks-lt1 c =
     answer_none (payload (goal.at.returns-then-blocks-lt1 c).Start)
-    (λ h. omega (arith, long-payload (goal.at.returns-then-blocks-lt1 c).Start, c.word_at-blocks.ensures))
+    (λ h. omega (arith, long_payload (goal.at.returns-then-blocks-lt1 c).Start, c.word_at-blocks.ensures))
 
 pub returns-then-len-end : goal.returns-then-len-end
 returns-then-len-end c =
     answer_none (payload (goal.at.returns-then-len-end c).Start)
-    (λ h. omega (arith, long-payload (goal.at.returns-then-len-end c).Start, c.word_at-blocks.ensures))
+    (λ h. omega (arith, long_payload (goal.at.returns-then-len-end c).Start, c.word_at-blocks.ensures))
 
 pub overflow_sub-result : goal.overflow_sub-result
 overflow_sub-result c =

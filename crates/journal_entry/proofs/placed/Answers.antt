@@ -14,14 +14,14 @@ use Rattle.journal_entry.proofs.placed.Goals as goal
 use Rattle.journal_entry.proofs.placed.Goals.{After-kind_of, After-second_limit}
 
 -- the most second bytes of an entry of its kind
-limit-got : (c : After-second_limit) (s : List ℕ) (at : ℕ) → c.args.word ≡ word_at s at
+limit_got : (c : After-second_limit) (s : List ℕ) (at : ℕ) → c.args.word ≡ word_at s at
     → c.second_limit.result ≡ second_limit (leb 4096 (word_at s at))
-limit-got c s at is = c.second_limit.ensures ∙ ap (λ (w : ℕ). second_limit (leb 4096 w)) is
+limit_got c s at is = c.second_limit.ensures ∙ ap (λ (w : ℕ). second_limit (leb 4096 w)) is
 
 -- both pieces lie before the end
-fit-got : (c : After-kind_of) → let x = c.args in
+fit_got : (c : After-kind_of) → let x = c.args in
     x.at + 8 + (c.first_len-first.result + x.after) ≤ x.end
-fit-got c = fit_yes _ _ _ c.fits.ensures c.if-not-fits.false-raw
+fit_got c = fit_yes _ _ _ c.fits.ensures c.if-not-fits.false-raw
 
 pub returns-then-first-gt-FIRST_LIMIT : goal.returns-then-first-gt-FIRST_LIMIT
 returns-then-first-gt-FIRST_LIMIT c s inside is₁ is₂ =
@@ -34,7 +34,7 @@ returns-then-second_limit-second c s inside is₁ is₂ =
     let x = c.args in
     let g = second_at_lem s x.at x.word is₁ (x.word - clone_mark (leb 4096 x.word)) refl x.after is₂ in
     sym (read_no s x.at x.end (λ h. omega
-    (arith, g, limit-got (goal.at.returns-then-second_limit-second c).After-second_limit s x.at is₁)))
+    (arith, g, limit_got (goal.at.returns-then-second_limit-second c).After-second_limit s x.at is₁)))
 
 pub returns-then-not-fits : goal.returns-then-not-fits
 returns-then-not-fits c s inside is₁ is₂ =
@@ -46,22 +46,22 @@ returns-then-not-fits c s inside is₁ is₂ =
     sym (read_no s x.at x.end (λ h. omega (arith, f, g, past)))
 
 pub overflow_add-result : goal.overflow_add-result
-overflow_add-result c = omega (arith, fit-got (goal.at.overflow_add-result c).After-kind_of)
+overflow_add-result c = omega (arith, fit_got (goal.at.overflow_add-result c).After-kind_of)
 
 pub overflow_add-result-2 : goal.overflow_add-result-2
-overflow_add-result-2 c = omega (arith, fit-got (goal.at.overflow_add-result-2 c).After-kind_of)
+overflow_add-result-2 c = omega (arith, fit_got (goal.at.overflow_add-result-2 c).After-kind_of)
 
 pub overflow_add-result-3 : goal.overflow_add-result-3
-overflow_add-result-3 c = omega (arith, fit-got (goal.at.overflow_add-result-3 c).After-kind_of)
+overflow_add-result-3 c = omega (arith, fit_got (goal.at.overflow_add-result-3 c).After-kind_of)
 
 pub overflow_add-result-4 : goal.overflow_add-result-4
-overflow_add-result-4 c = omega (arith, fit-got (goal.at.overflow_add-result-4 c).After-kind_of)
+overflow_add-result-4 c = omega (arith, fit_got (goal.at.overflow_add-result-4 c).After-kind_of)
 
 pub overflow_add-result-5 : goal.overflow_add-result-5
-overflow_add-result-5 c = omega (arith, fit-got (goal.at.overflow_add-result-5 c).After-kind_of)
+overflow_add-result-5 c = omega (arith, fit_got (goal.at.overflow_add-result-5 c).After-kind_of)
 
 pub overflow_add-result-6 : goal.overflow_add-result-6
-overflow_add-result-6 c = omega (arith, fit-got (goal.at.overflow_add-result-6 c).After-kind_of)
+overflow_add-result-6 c = omega (arith, fit_got (goal.at.overflow_add-result-6 c).After-kind_of)
 
 pub returns : goal.returns
 returns c s inside is₁ is₂ =
@@ -76,6 +76,6 @@ returns c s inside is₁ is₂ =
       arith,
       f,
       g,
-      limit-got (goal.at.returns c).After-second_limit s x.at is₁,
-      fit-got (goal.at.returns c).After-kind_of,
+      limit_got (goal.at.returns c).After-second_limit s x.at is₁,
+      fit_got (goal.at.returns c).After-kind_of,
     )))

@@ -14,8 +14,8 @@ use Rattle.journal_range.proofs.batch_in.Goals.{After-entries_in-walk, Start}
 abbrev joined : Start → List ℕ
 joined c = c.args.a.now ++ c.args.b.now
 
-long-joined : (c : Start) → length (joined c) ≡ length c.args.a.now + length c.args.b.now
-long-joined c = length-append c.args.a.now c.args.b.now
+long_joined : (c : Start) → length (joined c) ≡ length c.args.a.now + length c.args.b.now
+long_joined c = length-append c.args.a.now c.args.b.now
 
 headed : (c : After-entries_in-walk) → Headed (c.args.a.now ++ c.args.b.now)
 headed c = omega (arith, (length-append c.args.a.now c.args.b.now), c.word_at-blocks.ensures)
@@ -32,17 +32,17 @@ walked c =
 pub returns-then-len-lt8 : goal.returns-then-len-lt8
 returns-then-len-lt8 c =
     answer_none (joined (goal.at.returns-then-len-lt8 c).Start)
-    (λ h. omega (arith, long-joined (goal.at.returns-then-len-lt8 c).Start))
+    (λ h. omega (arith, long_joined (goal.at.returns-then-len-lt8 c).Start))
 
 pub returns-then-blocks-lt1 : goal.returns-then-blocks-lt1
 returns-then-blocks-lt1 c =
     answer_none (joined (goal.at.returns-then-blocks-lt1 c).Start)
-    (λ h. omega (arith, long-joined (goal.at.returns-then-blocks-lt1 c).Start, c.word_at-blocks.ensures))
+    (λ h. omega (arith, long_joined (goal.at.returns-then-blocks-lt1 c).Start, c.word_at-blocks.ensures))
 
 pub returns-then-len-end : goal.returns-then-len-end
 returns-then-len-end c =
     answer_none (joined (goal.at.returns-then-len-end c).Start)
-    (λ h. omega (arith, long-joined (goal.at.returns-then-len-end c).Start, c.word_at-blocks.ensures))
+    (λ h. omega (arith, long_joined (goal.at.returns-then-len-end c).Start, c.word_at-blocks.ensures))
 
 pub overflow_sub-result : goal.overflow_sub-result
 overflow_sub-result c =

@@ -16,8 +16,8 @@ use Rattle.journalist.proofs.Journalist.append.Goals as goal
 use Rattle.journalist.proofs.Journalist.append.Goals.{Else-not-base_hangs, Else-ring-self, Else-second_limit-second}
 
 -- behind each test, what it tells
-base-so : (c : Else-not-base_hangs) → base_hangs c.args.self ≡ true
-base-so c = passed c.base_hangs.ensures c.if-not-base_hangs.false-raw
+base_so : (c : Else-not-base_hangs) → base_hangs c.args.self ≡ true
+base_so c = passed c.base_hangs.ensures c.if-not-base_hangs.false-raw
 
 together : (c : Else-ring-self) → hangs_together c.args.self ≡ true
 together c =
@@ -47,13 +47,13 @@ returns-then-not-base_hangs c =
     record { result_value = told.0; ring_new = told.1 }
 
 pub thaw_hangs-requires : goal.thaw_hangs-requires
-thaw_hangs-requires c = base-so (goal.at.thaw_hangs-requires c).Else-not-base_hangs
+thaw_hangs-requires c = base_so (goal.at.thaw_hangs-requires c).Else-not-base_hangs
 
 pub returns-then-not-thaw_hangs : goal.returns-then-not-thaw_hangs
 returns-then-not-thaw_hangs c =
     let a = c.args in let told = answers_2 a.self a.ring.now a.kind a.first.now a.second.now
     (ring_unhung _ a.ring.now
-    (sym (halves_hang _ (base-so (goal.at.returns-then-not-thaw_hangs c).Else-not-base_hangs))
+    (sym (halves_hang _ (base_so (goal.at.returns-then-not-thaw_hangs c).Else-not-base_hangs))
     ∙ failed c.thaw_hangs.ensures c.if-not-thaw_hangs.true-raw)) in
     record { result_value = told.0; ring_new = told.1 }
 

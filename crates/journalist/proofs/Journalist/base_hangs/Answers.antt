@@ -18,12 +18,12 @@ use Rattle.journalist.proofs.Journalist.base_hangs.Goals as goal
 use Rattle.journalist.proofs.Journalist.base_hangs.Goals.{After-larger-2, Else-not-both_within, Else-not-both_within-2}
 use Rattle.journalist.proofs.Journalist.base_hangs.Goals.{Else-not-in_range, Else-not-lists_hang}
 
-ranged-so : (c : Else-not-in_range) → in_range c.args.self.blocks c.args.self.ring ≡ true
-ranged-so c = passed c.in_range.ensures c.if-not-in_range.false-raw
+ranged_so : (c : Else-not-in_range) → in_range c.args.self.blocks c.args.self.ring ≡ true
+ranged_so c = passed c.in_range.ensures c.if-not-in_range.false-raw
 
 -- the lists' bytes, once the ring is known to hold them
-bytes-so : (c : Else-not-both_within) → let j = c.args.self in j.frozen.bytes + j.memory.bytes ≤ 8388608
-bytes-so c =
+bytes_so : (c : Else-not-both_within) → let j = c.args.self in j.frozen.bytes + j.memory.bytes ≤ 8388608
+bytes_so c =
     let j = c.args.self in
     let limits = range_facts _ _ (passed c.in_range.ensures c.if-not-in_range.false-raw) in
     let k =
@@ -32,13 +32,13 @@ bytes-so c =
     omega (arith, limits.ring)
 
 -- the blocks, once they are known to be within N
-blocks-so : (c : Else-not-both_within-2) → let j = c.args.self in (j.written + j.held ≤ j.blocks) × (j.blocks ≤ 1024)
-blocks-so c =
+blocks_so : (c : Else-not-both_within-2) → let j = c.args.self in (j.written + j.held ≤ j.blocks) × (j.blocks ≤ 1024)
+blocks_so c =
     let limits = range_facts _ _ (passed c.in_range.ensures c.if-not-in_range.false-raw) in
     (leb-true _ _ (passed c.both_within-2.ensures c.if-not-both_within-2.false-raw), limits.high)
 
-lists-so : (c : Else-not-lists_hang) → ListsHang c.args.self
-lists-so c =
+lists_so : (c : Else-not-lists_hang) → ListsHang c.args.self
+lists_so c =
     lists_told c.args.self (leb-true _ _ (passed c.both_within-2.ensures c.if-not-both_within-2.false-raw))
     (passed c.lists_hang.ensures c.if-not-lists_hang.false-raw)
 
@@ -68,8 +68,8 @@ returns-then-not-both_within-2 c =
 pub lists_hang-requires : goal.lists_hang-requires
 lists_hang-requires c =
     record {
-      held_bound = blocks-so (goal.at.lists_hang-requires c).Else-not-both_within-2;
-      bytes_bound = bytes-so (goal.at.lists_hang-requires c).Else-not-both_within;
+      held_bound = blocks_so (goal.at.lists_hang-requires c).Else-not-both_within-2;
+      bytes_bound = bytes_so (goal.at.lists_hang-requires c).Else-not-both_within;
     }
 
 pub returns-then-not-lists_hang : goal.returns-then-not-lists_hang
@@ -96,20 +96,20 @@ pub overflow_add-result : goal.overflow_add-result
 overflow_add-result c =
     omega (
       arith,
-      bytes-so (goal.at.overflow_add-result c).Else-not-both_within,
-      counts_least _ _ (lists-so (goal.at.overflow_add-result c).Else-not-lists_hang).frozen,
-      counts_least _ _ (lists-so (goal.at.overflow_add-result c).Else-not-lists_hang).memory,
+      bytes_so (goal.at.overflow_add-result c).Else-not-both_within,
+      counts_least _ _ (lists_so (goal.at.overflow_add-result c).Else-not-lists_hang).frozen,
+      counts_least _ _ (lists_so (goal.at.overflow_add-result c).Else-not-lists_hang).memory,
     )
 
 -- behind all but the last, the last decides
 pub returns : goal.returns
 returns c =
     let j = c.args.self in
-    let lists = lists-so (goal.at.returns c).Else-not-lists_hang in
+    let lists = lists_so (goal.at.returns c).Else-not-lists_hang in
     same (leb j.clones (j.frozen.entries + j.memory.entries)) (base_hangs j)
     (λ t. tests_all j
     (record {
-      ranged = ranged-so (goal.at.returns c).Else-not-in_range;
+      ranged = ranged_so (goal.at.returns c).Else-not-in_range;
       started =
           start_true j.ring j.start (omega (arith, c.larger.ensures, c.if-larger-self.false));
       filled = passed c.both_within.ensures c.if-not-both_within.false-raw;

@@ -9,8 +9,8 @@ use Rattle.journalist.proofs.Replaying.{pop_unhung, pop_done, pop_refused}
 use Rattle.journalist.proofs.Journalist.replay_journal_pop.Goals as goal
 use Rattle.journalist.proofs.Journalist.replay_journal_pop.Goals.{Else-not-base_hangs, Else-not-thaw_hangs}
 
-base-so : (c : Else-not-base_hangs) → base_hangs c.args.self ≡ true
-base-so c = passed c.base_hangs.ensures c.if-not-base_hangs.false-raw
+base_so : (c : Else-not-base_hangs) → base_hangs c.args.self ≡ true
+base_so c = passed c.base_hangs.ensures c.if-not-base_hangs.false-raw
 
 hangs : (c : Else-not-thaw_hangs) → hangs_together c.args.self ≡ true
 hangs c =
@@ -22,12 +22,12 @@ returns-then-not-base_hangs c =
     pop_unhung _ _ (base_unhung _ (failed c.base_hangs.ensures c.if-not-base_hangs.true-raw))
 
 pub thaw_hangs-requires : goal.thaw_hangs-requires
-thaw_hangs-requires c = base-so (goal.at.thaw_hangs-requires c).Else-not-base_hangs
+thaw_hangs-requires c = base_so (goal.at.thaw_hangs-requires c).Else-not-base_hangs
 
 pub returns-then-not-thaw_hangs : goal.returns-then-not-thaw_hangs
 returns-then-not-thaw_hangs c =
     pop_unhung _ _
-    (sym (halves_hang _ (base-so (goal.at.returns-then-not-thaw_hangs c).Else-not-base_hangs))
+    (sym (halves_hang _ (base_so (goal.at.returns-then-not-thaw_hangs c).Else-not-base_hangs))
     ∙ failed c.thaw_hangs.ensures c.if-not-thaw_hangs.true-raw)
 
 pub returns-in-Refused : goal.returns-in-Refused

@@ -14,12 +14,12 @@ use Rattle.journalist.proofs.package.ring_reads.Goals as goal
 use Rattle.journalist.proofs.package.ring_reads.Goals.{Start}
 
 -- what each list reads as
-abbrev frozen-of : Start → Option (List JournalEntry)
-frozen-of c =
+abbrev frozen_of : Start → Option (List JournalEntry)
+frozen_of c =
     let a = c.args in read_exactly a.frozen.entries (part (rotated a.ring.now a.start) 0 a.frozen.bytes)
 
-abbrev memory-of : Start → Option (List JournalEntry)
-memory-of c =
+abbrev memory_of : Start → Option (List JournalEntry)
+memory_of c =
     let a = c.args in
     read_exactly a.memory.entries
     (part (rotated a.ring.now a.start) a.frozen.bytes (a.frozen.bytes + a.memory.bytes))
@@ -29,8 +29,8 @@ clones_read-first-requires c = omega (arith, c.requires)
 
 pub returns-in_default : goal.returns-in_default
 returns-in_default c =
-    no_frozen_read (frozen-of (goal.at.returns-in_default c).Start)
-    (memory-of (goal.at.returns-in_default c).Start) c.args.clones c.clones_read-first.result
+    no_frozen_read (frozen_of (goal.at.returns-in_default c).Start)
+    (memory_of (goal.at.returns-in_default c).Start) c.args.clones c.clones_read-first.result
     c.clones_read-first.ensures
     c.in_default.is
 
@@ -39,8 +39,8 @@ clones_read-second-requires c = omega (arith, c.requires)
 
 pub returns-in_default-second : goal.returns-in_default-second
 returns-in_default-second c =
-    no_memory_read (frozen-of (goal.at.returns-in_default-second c).Start)
-    (memory-of (goal.at.returns-in_default-second c).Start) c.args.clones _ c.clones_read-first.result
+    no_memory_read (frozen_of (goal.at.returns-in_default-second c).Start)
+    (memory_of (goal.at.returns-in_default-second c).Start) c.args.clones _ c.clones_read-first.result
     c.clones_read-second.result c.clones_read-first.ensures
     c.clones_read-second.ensures
     c.in-Clones.is c.in_default-second.is
@@ -56,8 +56,8 @@ overflow_add-f c =
 
 pub returns-then-f-m : goal.returns-then-f-m
 returns-then-f-m c =
-    other_clones (frozen-of (goal.at.returns-then-f-m c).Start)
-    (memory-of (goal.at.returns-then-f-m c).Start) c.args.clones _ _ c.clones_read-first.result
+    other_clones (frozen_of (goal.at.returns-then-f-m c).Start)
+    (memory_of (goal.at.returns-then-f-m c).Start) c.args.clones _ _ c.clones_read-first.result
     c.clones_read-second.result c.clones_read-first.ensures
     c.clones_read-second.ensures
     c.in-Clones.is c.in-Clones-second.is
@@ -65,8 +65,8 @@ returns-then-f-m c =
 
 pub returns : goal.returns
 returns c =
-    same_clones (frozen-of (goal.at.returns c).Start)
-    (memory-of (goal.at.returns c).Start) c.args.clones _ _ c.clones_read-first.result
+    same_clones (frozen_of (goal.at.returns c).Start)
+    (memory_of (goal.at.returns c).Start) c.args.clones _ _ c.clones_read-first.result
     c.clones_read-second.result c.clones_read-first.ensures
     c.clones_read-second.ensures
     c.in-Clones.is c.in-Clones-second.is

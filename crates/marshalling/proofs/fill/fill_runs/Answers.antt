@@ -14,12 +14,12 @@ use Rattle.marshalling.proofs.fill.fill_runs.Goals as goal
 use Rattle.marshalling.proofs.fill.fill_runs.Goals.{After-copy_run-filled}
 
 -- what is known where a run is copied
-run-known : (c : After-copy_run-filled)
+run_known : (c : After-copy_run-filled)
     → let a = c.args in
     let done = a.done + c.loop-filled.filled in
     let r = c.copy_run-filled.result in
     (0 < r) × (r ≤ a.n - done) × (r ≤ to_block_end done) × Takes a.a.now a.b.now a.at a.n done (done + r) 1
-run-known c =
+run_known c =
     let a = c.args in
     takes_one a.a.now a.b.now a.at a.n c.requires.n_in_bounds (a.done + c.loop-filled.filled) c.copy_run-filled.result
     (omega arith) c.copy_run-filled.ensures.value
@@ -28,7 +28,7 @@ run-known c =
 run_ends : (c : After-copy_run-filled)
     → c.loop-filled.filled + c.copy_run-filled.result ≤ c.least-end.result
 run_ends c =
-    let k = run-known c in
+    let k = run_known c in
     run_within c.args.n c.args.done c.loop-filled.filled c.least-end.result c.copy_run-filled.result
     (rw (c.requires.dst_len, c.less.ensures) at c.least-end.ensures) (omega arith) k.1 k.2
 
@@ -44,7 +44,7 @@ overflow_add-filled c =
 
 pub loop-filled-smaller : goal.loop-filled-smaller
 loop-filled-smaller c =
-    let k = (run-known (goal.at.loop-filled-smaller c).After-copy_run-filled).0 in
+    let k = (run_known (goal.at.loop-filled-smaller c).After-copy_run-filled).0 in
     let e = run_ends (goal.at.loop-filled-smaller c).After-copy_run-filled in
     omega arith
 
@@ -52,7 +52,7 @@ pub loop-filled-preserved : goal.loop-filled-preserved
 loop-filled-preserved c =
     let a = c.args in
     let there : a.at + a.n ≤ length (a.a.now ++ a.b.now) = rw length-append c.requires.n_in_bounds in
-    let k = run-known (goal.at.loop-filled-preserved c).After-copy_run-filled in
+    let k = run_known (goal.at.loop-filled-preserved c).After-copy_run-filled in
     let on = add_assoc a.done c.loop-filled.filled c.copy_run-filled.result in
     let took = takes_then a.a.now a.b.now a.at a.n _ _ _ _ _ c.loop-filled.invariant.4 k.3 in (
       run_ends (goal.at.loop-filled-preserved c).After-copy_run-filled,
