@@ -2,7 +2,8 @@
 // the input cannot be read it prints `unread`.
 #![tactic(auto)]
 
-ghost use Rattle.std.specs.Prelude.{◌≡◌, ◌≤◌, IfOk, length};
+ghost use Rattle.std.specs.Prelude.{◌≡◌, ◌<◌, ◌≤◌, IfOk, length, take};
+ghost use Rattle.std.specs.Io.KnownBytes.{Consumes, IsAtEnd};
 ghost use Rattle.lister.specs.Lister.{listed_payload, listed_image};
 
 use journal_image::BlocksAnswer;
@@ -75,9 +76,13 @@ fn print(rt: &(impl Print + Eprint), listed: Listed, text: &[u8]) -> io::Result<
     Ok(())
 }
 
-// Reads until the buffer is full or the input ends, and gives the bytes read.
+// Reads until the buffer is full or the input ends, and gives the number of bytes read: the input's next ones, at the
+// buffer's front.
 fn read_full<R: Read>(input: &mut R, buffer: &mut [u8]) -> io::Result<usize>
-    ensures { IfOk result (λ n. n ≤ length buffer.new) }
+    ensures bound { IfOk result (λ n. n ≤ length buffer.new) }
+    ensures bytes { IfOk result
+        (λ n. Consumes (R.remaining input.old) (R.remaining input.new) (take n buffer.new)) }
+    ensures end { IfOk result (λ n. n < length buffer.new → IsAtEnd (R.remaining input.new)) }
 {
     let mut done = 0;
     while done < buffer.len() {
