@@ -3,7 +3,7 @@
 use mathlib.Core.Path.{◌≡◌, refl, sym, ap, ◌∙◌}
 use mathlib.Core.Bool.{false}
 use mathlib.Core.List.{List, [], ◌∷◌, ◌++◌, append_assoc, append-nil}
-use mathlib.Core.Option.{some}
+use Rattle.std.specs.Prelude.{Some}
 use Prim.Native.Nat.{ℕ, zero, suc, ◌+◌, ◌-◌, ◌*◌, ◌≤◌, ◌<◌}
 use native.Mathlib.Omega.{arith}
 use borrow.Author.Tests.{le-leb, lt-leb}
@@ -123,7 +123,7 @@ module _ (n : ℕ) (card image : List ℕ) (old new : List JournalEntry) (v : Li
   -- no blocks read as no entries
   nothing_new : k ≡ 0 → new ≡ []
   unfolding without_checksums
-  nothing_new e = let r : parse_payload [] ≡ some new = rw e at c.reads in let z = sym r ∙ parse_payload_nil in cc
+  nothing_new e = let r : parse_payload [] ≡ Some new = rw e at c.reads in let z = sym r ∙ parse_payload_nil in cc
 
   last_start : live_start last ≡ live_start card
   last_start =

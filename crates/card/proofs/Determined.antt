@@ -1,35 +1,29 @@
 -- Each outcome belongs to one answer, so a promise that gives the outcome leaves no choice. Assumes nothing.
+use mathlib.Core.Bool.{Bool}
 use mathlib.Core.Path.{◌≡◌, refl, ap}
-use Rattle.refusals.specs.Refusals.{number_of}
+use Rattle.std.specs.Prelude.{Result, Ok, Err}
+use Rattle.refusals.specs.declared.Refusal.{Refusal}
+use Rattle.refusals.specs.declared.ImageRefusal.{ImageRefusal}
+use Rattle.refusals.specs.declared.ImageRefusal.TheVariants.{ChecksumDiffers, Plain}
+use Rattle.refusals.specs.Answers.{outcome_of, image_outcome_of}
 use Rattle.refusals.proofs.Numbers.{number_determines}
-use Rattle.card.specs.Answers.{formatted_outcome, stored_outcome}
-use Rattle.card.specs.declared.Formatted.{Formatted}
-use Rattle.card.specs.declared.Formatted.TheVariants as format
-use Rattle.card.specs.declared.Stored.{Stored}
-use Rattle.card.specs.declared.Stored.TheVariants as store
+use Rattle.refusals.proofs.Outcomes.{gives_same, refuses_same}
+use Rattle.refusals.proofs.Tests.{impossible}
 
-pub formatted_determines : (a b : Formatted) → formatted_outcome a ≡ formatted_outcome b → a ≡ b
-formatted_determines format.Done format.Done h = refl
-formatted_determines format.Done (format.Refused y) h = cc
-formatted_determines (format.Refused x) format.Done h = cc
-formatted_determines (format.Refused x) (format.Refused y) h = let e : number_of x ≡ number_of y = cc in
-    ap format.Refused (number_determines x y e)
+pub formatted_determines : (a b : Result (Unit {0}) Refusal) → outcome_of a ≡ outcome_of b → a ≡ b
+formatted_determines (Ok a) (Ok b) h = refl
+formatted_determines (Ok a) (Err y) h = impossible cc
+formatted_determines (Err x) (Ok b) h = impossible cc
+formatted_determines (Err x) (Err y) h = ap Err (number_determines x y (refuses_same h))
 
-pub stored_determines : (a b : Stored) → stored_outcome a ≡ stored_outcome b → a ≡ b
-stored_determines store.Made store.Made h = refl
-stored_determines store.Made store.NoneLeft h = cc
-stored_determines store.Made (store.ChecksumDiffers j) h = cc
-stored_determines store.Made (store.Refused y) h = cc
-stored_determines store.NoneLeft store.Made h = cc
-stored_determines store.NoneLeft store.NoneLeft h = refl
-stored_determines store.NoneLeft (store.ChecksumDiffers j) h = cc
-stored_determines store.NoneLeft (store.Refused y) h = cc
-stored_determines (store.ChecksumDiffers i) store.Made h = cc
-stored_determines (store.ChecksumDiffers i) store.NoneLeft h = cc
-stored_determines (store.ChecksumDiffers i) (store.ChecksumDiffers j) h = cc
-stored_determines (store.ChecksumDiffers i) (store.Refused y) h = cc
-stored_determines (store.Refused x) store.Made h = cc
-stored_determines (store.Refused x) store.NoneLeft h = cc
-stored_determines (store.Refused x) (store.ChecksumDiffers j) h = cc
-stored_determines (store.Refused x) (store.Refused y) h = let e : number_of x ≡ number_of y = cc in
-    ap store.Refused (number_determines x y e)
+pub stored_determines : (a b : Result Bool ImageRefusal) → image_outcome_of a ≡ image_outcome_of b → a ≡ b
+stored_determines (Ok a) (Ok b) h = ap Ok (gives_same h)
+stored_determines (Ok a) (Err (ChecksumDiffers j)) h = impossible cc
+stored_determines (Ok a) (Err (Plain y)) h = impossible cc
+stored_determines (Err (ChecksumDiffers i)) (Ok b) h = impossible cc
+stored_determines (Err (ChecksumDiffers i)) (Err (ChecksumDiffers j)) h = cc
+stored_determines (Err (ChecksumDiffers i)) (Err (Plain y)) h = impossible cc
+stored_determines (Err (Plain x)) (Ok b) h = impossible cc
+stored_determines (Err (Plain x)) (Err (ChecksumDiffers j)) h = impossible cc
+stored_determines (Err (Plain x)) (Err (Plain y)) h =
+    ap (λ (why : Refusal). Err (Plain why)) (number_determines x y (refuses_same h))

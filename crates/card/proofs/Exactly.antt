@@ -3,7 +3,7 @@
 use mathlib.Core.Path.{◌≡◌, refl}
 use mathlib.Core.Bool.{Bool, true, false, cond, not, ◌||◌}
 use mathlib.Core.List.{List, [], ◌∷◌}
-use mathlib.Core.Option.{Option, none, some}
+use Rattle.std.specs.Prelude.{Option, None, Some, is_some}
 use Prim.Native.Nat.{ℕ, ◌+◌, ◌*◌, ◌/◌, ◌%◌}
 use native.Mathlib.Omega.{arith}
 use borrow.Author.Tests.{eq-eqb}
@@ -16,7 +16,6 @@ use Rattle.journal_entry.specs.Entry.{JournalEntry}
 use Rattle.journal_range.specs.Payload.{parse_payload}
 use Rattle.journal_image.specs.Image.{without_checksums, lowest_damaged}
 use Rattle.journal_image.specs.Strip.{strip_call}
-use Rattle.image_range.specs.InPlace.{is_read}
 use Rattle.card.specs.Card.{card_sized, live_len, formed, live_image, live_payload}
 use Rattle.card.specs.Calls.{format_call, find_call, image_blocks, store_left, store_call, first_blocks, release_call}
 use Rattle.card.proofs.Formed.{formed_told}
@@ -24,9 +23,9 @@ use Rattle.card.proofs.Live.{length_live}
 
 -- 14 as a test
 read_row : {A : Type 0} (p : Option (List JournalEntry)) (o : Outcome A)
-    → (given p else 14 then λ es. o) ≡ (require is_read p else 14 then o)
-read_row (some es) o = refl
-read_row none o = refl
+    → (given p else 14 then λ es. o) ≡ (require is_some p else 14 then o)
+read_row (Some es) o = refl
+read_row None o = refl
 
 -- 19 as a test: no store is left, or there is room
 full_row : (left room : Bool)
@@ -72,7 +71,7 @@ module _ (n : ℕ) (card : List ℕ) where
       → ExactlyUndamaged
       ((blocks_in_range n, 1) ∷ (formed n card, 18) ∷ (eqb (length image % 4096) 0, 11) ∷ [])
       (lowest_damaged (image_blocks image) image)
-      ((is_read (parse_payload (without_checksums (image_blocks image) image)), 14)
+      ((is_some (parse_payload (without_checksums (image_blocks image) image)), 14)
       ∷ (not (store_left (image_blocks image) made) || leb (live_len card + image_blocks image) n, 19) ∷ [])
       (store_left (image_blocks image) made) (store_call n card image made)
   unfolding store_call
@@ -89,7 +88,7 @@ module _ (n : ℕ) (card : List ℕ) where
   pub release_exactly : ExactlyUndamaged
       ((blocks_in_range n, 1) ∷ (formed n card, 18) ∷ (leb 1 (live_len card), 8) ∷ [])
       (lowest_damaged (live_len card) (live_image card))
-      ((is_read (parse_payload (live_payload card)), 14) ∷ []) (first_blocks (live_payload card)) (release_call n card)
+      ((is_some (parse_payload (live_payload card)), 14) ∷ []) (first_blocks (live_payload card)) (release_call n card)
   unfolding release_call
   release_exactly =
       exactly_undamaged _ _ _ _ _ refl refl

@@ -12,7 +12,7 @@ use Rattle.refusals.proofs.Tests.{both}
 use Rattle.words.proofs.Splice.{splice_zero, length_splice}
 use Rattle.disk_layout.specs.JournalInterval.{valid_journal_interval}
 use Rattle.journal_entry.specs.Places.{word_at}
-use Rattle.journal_entry.proofs.Joined.{word_left}
+use Rattle.journal_entry.proofs.Joins.{word_left}
 use Rattle.journal_image.specs.Image.{same_bytes}
 use Rattle.journal_image.proofs.Same.{same_equal, same_refl}
 use Rattle.card.specs.Superblock.{superblock}

@@ -1,6 +1,6 @@
 -- The live image as two runs of the card, and what is read and copied of both. Assumes nothing.
 use mathlib.Core.Path.{◌≡◌, sym, ap, ap₂, ◌∙◌}
-use mathlib.Core.Bool.{Bool}
+use mathlib.Core.Bool.{true}
 use mathlib.Core.List.{List, [], ◌++◌, append_assoc, append-nil}
 use Prim.Native.Nat.{ℕ, ◌+◌, ◌-◌, ◌*◌, ◌/◌, ◌%◌, ◌≤◌, ◌<◌, min}
 use native.Mathlib.Omega.{arith}
@@ -8,22 +8,16 @@ use lib.ListN.{length, take, drop, length-append, length-drop, drop_of_length-le
 use lib.Seq.{length-take-le, take_all, take_at, drop_at, drop-drop}
 use Rattle.words.proofs.Slices.{tail}
 use Rattle.disk_layout.specs.DiskLayout.{journal_point}
-use Rattle.journal_entry.specs.Places.{word_at}
 use Rattle.journal_entry.proofs.Options.{by_order}
-use Rattle.journal_range.specs.Payload.{parse_payload, range_of}
 use Rattle.journal_image.specs.Image.{without_checksums, payloads_over, lowest_damaged}
-use Rattle.journal_image.specs.Damage.{damage_of}
-use Rattle.journal_image.specs.declared.Damage.{Damage}
 use Rattle.journal_image.proofs.Payloads.{length_without}
 use Rattle.journal_image.proofs.Blocks.{without_append}
 use Rattle.journal_ring.proofs.RingLaws.{cyclic_slice_straight, cyclic_slice_wrapped}
-use Rattle.image_range.specs.InPlace.{image_payload, lowest_of_two, is_read}
+use Rattle.image_range.specs.InPlace.{image_payload, lowest_of_two}
 use Rattle.image_range.proofs.Places.{payload_is}
 use Rattle.image_range.proofs.Damage.{damaged_joined}
-use Rattle.image_range.proofs.Ranges.{image_range}
-use Rattle.card.specs.Card.{live_start, live_len, journal_part, live_image, live_front, live_back, live_payload}
-use Rattle.card.specs.Calls.{first_blocks}
-use Rattle.card.proofs.Formed.{Formed}
+use Rattle.card.specs.Card.{formed, live_start, live_len, journal_part, live_image, live_front, live_back, live_payload}
+use Rattle.card.proofs.Formed.{Formed, formed_told}
 use Rattle.card.proofs.Live.{length_journal}
 
 -- The runs as the code cuts them.
@@ -48,14 +42,44 @@ module _ (card : List ℕ) (start len : ℕ) (s : start ≡ live_start card) (l 
       ∙ sym (take_all (4096 * live_len card) (drop (journal_point (live_start card)) card)
       (rw length-drop (omega arith)))
 
-pub back_part : (card front : List ℕ) (len : ℕ) → front ≡ live_front card → len ≡ live_len card
-    → take (8192 + (4096 * len - length front) - 8192) (drop 8192 card) ≡ live_back card
+-- both runs, of which the first has as many bytes as the live blocks have, or all to the card's end
+pub record Runs (card : List ℕ) (start len k : ℕ) : Type 0 where
+  pub in_card : 8192 + 4096 * start + k ≤ length card
+  pub back_in : 8192 + (4096 * len - k) ≤ length card
+  pub front : take (8192 + 4096 * start + k - (8192 + 4096 * start)) (drop (8192 + 4096 * start) card) ≡ live_front card
+  pub back : take (8192 + (4096 * len - k) - 8192) (drop 8192 card) ≡ live_back card
+
+pub live_start_in : (n : ℕ) (card : List ℕ) (start : ℕ) → formed n card ≡ true → start ≡ live_start card
+    → 8192 + 4096 * start ≤ length card
+live_start_in n card start is s = let f = formed_told n card is in omega (arith, f.start_in, f.size)
+
+pub runs : (n : ℕ) (card : List ℕ) (start len k : ℕ) → formed n card ≡ true → start ≡ live_start card
+    → len ≡ live_len card → k ≡ min (4096 * len) (length card - (8192 + 4096 * start)) → Runs card start len k
 unfolding live_back
-back_part card front len is l =
-    let same : length front ≡ length (live_front card) = ap length is in
-    let size : 8192 + (4096 * len - length front) - 8192 ≡ 4096 * live_len card - length (live_front card) =
-    omega arith in
-    ap (λ (k : ℕ). take k (drop 8192 card)) size
+runs n card start len k is s l e =
+    let f = formed_told n card is in
+    let zs = f.size in
+    let si = f.start_in in
+    let li = f.len_in in
+    let at = 8192 + 4096 * start in
+    let cut : take (at + k - at) (drop at card) ≡ live_front card =
+    by_order (4096 * len) (length card - at)
+    (λ h. let same : at + k - at ≡ at + 4096 * len - at = omega arith in
+    rw same (front_part card start len s l))
+    (λ h. let same : at + k - at ≡ length card - at = omega arith in
+    rw same (front_rest card start len s l h)) in
+    let inside : at + k ≤ length card = omega arith in
+    let same : at + k - at ≡ k = omega arith in
+    let long : length (live_front card) ≡ k =
+    sym (ap length cut) ∙ ap (λ (j : ℕ). length (take j (drop at card))) same
+    ∙ length-take-le k (drop at card) (rw length-drop (omega arith)) in
+    let rest : 8192 + (4096 * len - k) - 8192 ≡ 4096 * live_len card - length (live_front card) = omega arith in
+    record {
+      in_card = inside;
+      back_in = omega arith;
+      front = cut;
+      back = ap (λ (j : ℕ). take j (drop 8192 card)) rest;
+    }
 
 -- Both are whole blocks, and joined they are the live image.
 
@@ -141,24 +165,13 @@ module _ (n : ℕ) (card : List ℕ) (f : Formed n card) where
     joined_count : length (front ++ back) / 4096 ≡ live_len card
     joined_count = rw length-append count
 
-    pub damage_of_lem : (d : Damage) → d ≡ damage_of (lowest_of_two front back)
-        → d ≡ damage_of (lowest_damaged (live_len card) (live_image card))
-    damage_of_lem d e =
-        e ∙ ap damage_of (damaged_joined front back front_whole
-        ∙ ap₂ lowest_damaged joined_count joined)
+    pub lowest_of : lowest_of_two front back ≡ lowest_damaged (live_len card) (live_image card)
+    lowest_of = damaged_joined front back front_whole ∙ ap₂ lowest_damaged joined_count joined
 
-    payload_of_lem : image_payload (front ++ back) ≡ live_payload card
+    pub payload_of : image_payload (front ++ back) ≡ live_payload card
     unfolding live_payload
-    payload_of_lem =
+    payload_of =
         payload_is (front ++ back) (live_len card) joined_count ∙ ap (without_checksums (live_len card)) joined
-
-    pub reads_of : (t : Bool) → t ≡ is_read (range_of (image_payload (front ++ back)))
-        → t ≡ is_read (parse_payload (live_payload card))
-    reads_of t e = e ∙ ap is_read (image_range (front ++ back) ∙ ap parse_payload payload_of_lem)
-
-    pub first_of : (k : ℕ) → k ≡ word_at (image_payload (front ++ back)) 4 → k ≡ first_blocks (live_payload card)
-    unfolding first_blocks
-    first_of k e = e ∙ ap (λ (p : List ℕ). word_at p 4) payload_of_lem
 
     -- what is lent on behind the first run's payload
     abbrev lent : (x : List ℕ) → List ℕ

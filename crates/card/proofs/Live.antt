@@ -2,7 +2,7 @@
 use mathlib.Core.Path.{◌≡◌, ◌∙◌}
 use mathlib.Core.Bool.{true}
 use mathlib.Core.List.{List, ◌++◌}
-use mathlib.Core.Option.{none, some}
+use Rattle.std.specs.Prelude.{None, Some}
 use Prim.Native.Nat.{ℕ, ◌*◌, ◌%◌, ◌≤◌}
 use native.Mathlib.Omega.{arith}
 use lib.ListN.{length, take, drop, length-drop, length-append}
@@ -36,8 +36,8 @@ length_live n card f =
 pub record Live (n : ℕ) (card : List ℕ) (es : List JournalEntry) : Type 0 where
   pub range : blocks_in_range n ≡ true
   pub is_formed : formed n card ≡ true
-  pub agrees : lowest_damaged (live_len card) (live_image card) ≡ none
-  pub reads : parse_payload (live_payload card) ≡ some es
+  pub agrees : lowest_damaged (live_len card) (live_image card) ≡ None
+  pub reads : parse_payload (live_payload card) ≡ Some es
 
 -- so many payloads in front of the rest of a buffer
 handed_out_lem : (k : ℕ) (image out : List ℕ) → 4096 * k ≤ length image
@@ -56,7 +56,7 @@ module _ (n : ℕ) (card : List ℕ) (es : List JournalEntry) where
         rw (v.range, v.is_formed) (given (live_image card) out (live_len card) g)
 
     find_reads : (out : List ℕ) → 4064 * live_len card ≤ length out
-        → parse_payload (take (4064 * live_len card) (found_output n card out)) ≡ some es
+        → parse_payload (take (4064 * live_len card) (found_output n card out)) ≡ Some es
     unfolding found_output live_payload
     find_reads out room =
         let l = length_live n card (formed_told n card v.is_formed) in
@@ -101,7 +101,7 @@ module _ (n : ℕ) (card : List ℕ) (es : List JournalEntry) (d : Finds n card 
       let g = found_given.count in
       omega arith
 
-  pub found_reads : parse_payload (take (4064 * k) (found_output n card out)) ≡ some es
+  pub found_reads : parse_payload (take (4064 * k) (found_output n card out)) ≡ Some es
   found_reads =
       let v = finds_live n card es d in
       let c = found_live in
@@ -123,8 +123,8 @@ module _ (n : ℕ) (card : List ℕ) (es : List JournalEntry) (d : Finds n card 
 -- an image that checks and reads
 pub record Checked (image : List ℕ) (es : List JournalEntry) : Type 0 where
   pub whole : length image % 4096 ≡ 0
-  pub agrees : lowest_damaged (image_blocks image) image ≡ none
-  pub reads : parse_payload (without_checksums (image_blocks image) image) ≡ some es
+  pub agrees : lowest_damaged (image_blocks image) image ≡ None
+  pub reads : parse_payload (without_checksums (image_blocks image) image) ≡ Some es
 
 pub strips_checked : (image : List ℕ) (es : List JournalEntry) → Strips image es → Checked image es
 strips_checked image es s =

@@ -1,17 +1,21 @@
 -- The rows of release, as the code comes to them. Assumes nothing.
-use mathlib.Core.Path.{◌≡◌, sym}
-use mathlib.Core.Bool.{true, false}
+use mathlib.Core.Path.{◌≡◌, sym, ap, ◌∙◌}
+use mathlib.Core.Bool.{true}
 use mathlib.Core.List.{List}
-use mathlib.Core.Option.{none, some}
+use Rattle.std.specs.Prelude.{None, Some, Err}
 use Prim.Native.Nat.{ℕ, ◌-◌, ◌*◌, ◌≤◌, ◌<◌}
 use native.Mathlib.Omega.{arith}
 use borrow.Author.Tests.{le-leb, lt-leb, leb-true}
 use lib.ListN.{length}
 use Rattle.refusals.specs.Outcome.{Outcome, gives, refuses, refuses_block}
+use Rattle.refusals.specs.Answers.{image_outcome_of}
+use Rattle.refusals.specs.declared.ImageRefusal.{ImageRefusal}
+use Rattle.refusals.specs.declared.ImageRefusal.TheVariants.{ChecksumDiffers, Plain}
 use Rattle.refusals.proofs.Rows.{undamaged_given}
 use Rattle.disk_layout.proofs.Intervals.{range_facts}
 use Rattle.disk_layout.specs.DiskLayout.{blocks_in_range}
 use Rattle.journal_entry.specs.Entry.{JournalEntry}
+use Rattle.journal_entry.specs.Places.{word_at}
 use Rattle.journal_range.specs.Payload.{parse_payload}
 use Rattle.journal_image.specs.Image.{lowest_damaged}
 use Rattle.journal_ring.specs.Ring.{advance}
@@ -31,35 +35,38 @@ module _ (n : ℕ) (card : List ℕ) where
   abbrev call : Outcome ℕ
   call = release_call n card
 
-  pub release_1 : blocks_in_range n ≡ false → refuses 1 ≡ call
-  unfolding release_call
-  release_1 h = rw h
-
   module _ (range : blocks_in_range n ≡ true) where
-    pub release_18 : formed n card ≡ false → refuses 18 ≡ call
-    unfolding release_call
-    release_18 h = rw (range, h)
-
     module _ (is : formed n card ≡ true) where
       pub release_8 : live_len card < 1 → refuses 8 ≡ call
       unfolding release_call
       release_8 h = rw (range, is, lt-leb _ _ h)
 
       module _ (some-live : 1 ≤ live_len card) where
-        pub release_12 : (block : ℕ) → lowest_damaged (live_len card) (live_image card) ≡ some block
+        pub release_12 : (block : ℕ) → lowest_damaged (live_len card) (live_image card) ≡ Some block
             → refuses_block 12 block ≡ call
         unfolding release_call
         release_12 block h = rw (range, is, le-leb _ _ some-live, h)
 
-        module _ (agrees : lowest_damaged (live_len card) (live_image card) ≡ none) where
-          pub release_14 : parse_payload (live_payload card) ≡ none → refuses 14 ≡ call
+        module _ (agrees : lowest_damaged (live_len card) (live_image card) ≡ None) where
+          pub release_14 : parse_payload (live_payload card) ≡ None → refuses 14 ≡ call
           unfolding release_call
           release_14 h = rw (range, is, le-leb _ _ some-live, agrees, h)
 
-          pub release_given : (old : List JournalEntry) → parse_payload (live_payload card) ≡ some old
+          pub release_given : (old : List JournalEntry) → parse_payload (live_payload card) ≡ Some old
               → gives (first_blocks (live_payload card)) ≡ call
           unfolding release_call
           release_given old h = rw (range, is, le-leb _ _ some-live, agrees, h)
+
+pub ruleset live_rows = (release_8, release_12)
+
+-- the first batch's blocks, read where the payload lies
+pub release_first : (n : ℕ) (card : List ℕ) → blocks_in_range n ≡ true → formed n card ≡ true → 1 ≤ live_len card
+    → lowest_damaged (live_len card) (live_image card) ≡ None → (old : List JournalEntry)
+    → parse_payload (live_payload card) ≡ Some old → (p : List ℕ) (d : ℕ) → p ≡ live_payload card → d ≡ word_at p 4
+    → gives d ≡ release_call n card
+unfolding first_blocks
+release_first n card range is some-live agrees old reads p d same e =
+    ap gives (e ∙ ap (λ (l : List ℕ). word_at l 4) same) ∙ release_given n card range is some-live agrees old reads
 
 -- What the outcome tells of the rows, and the bytes.
 
@@ -70,7 +77,7 @@ module _ (n : ℕ) (card : List ℕ) where
       let ((range, (is, (some-live, done))), twelve, named) = (release_exactly n card).named_told number block e in
       omega (
         arith,
-        (lowest_told (live_len card) (live_image card) (some block) named).0,
+        (lowest_told (live_len card) (live_image card) (Some block) named).0,
         (formed_told n card is).len_in,
         (range_facts n range).1,
       )
@@ -78,14 +85,10 @@ module _ (n : ℕ) (card : List ℕ) where
   abbrev pub Comes : Outcome ℕ → List ℕ → Type 0
   Comes o after = (o ≡ release_call n card) × (after ≡ released n card)
 
-  pub release_refused : (number : ℕ) → refuses number ≡ release_call n card → Comes (refuses number) card
+  pub release_kept : (why : ImageRefusal) → image_outcome_of (Err why) ≡ release_call n card → card ≡ released n card
   unfolding released
-  release_refused number e = (e, rw (← e))
-
-  pub release_named : (number block : ℕ) → refuses_block number block ≡ release_call n card
-      → Comes (refuses_block number block) card
-  unfolding released
-  release_named number block e = (e, rw (← e))
+  release_kept (ChecksumDiffers block) e = rw (← e)
+  release_kept (Plain why) e = rw (← e)
 
   pub record Dropping (d : ℕ) : Type 0 where
     pub few : n ≤ 1024

@@ -2,7 +2,7 @@
 -- nothing.
 use mathlib.Core.Path.{◌≡◌, sym, ap, ◌∙◌}
 use mathlib.Core.List.{List, [], ◌++◌}
-use mathlib.Core.Option.{none, some}
+use Rattle.std.specs.Prelude.{None, Some}
 use Prim.Native.Nat.{ℕ, ◌+◌, ◌-◌, ◌*◌, ◌%◌, ◌≤◌, ◌<◌}
 use native.Mathlib.Omega.{arith}
 use borrow.Author.Tests.{le-leb, eqb-true}
@@ -35,13 +35,13 @@ use Rattle.card.proofs.Places.{dropped_outside}
 pub record Split (p : List ℕ) (es : List JournalEntry) : Type 0 where
   pub first : List JournalEntry
   pub rest : List JournalEntry
-  pub batch : front_batch p ≡ some (first, 4064 * first_blocks p)
+  pub batch : front_batch p ≡ Some (first, 4064 * first_blocks p)
   pub least : 1 ≤ first_blocks p
   pub most : 4064 * first_blocks p ≤ length p
-  pub behind : parse_payload (drop (4064 * first_blocks p) p) ≡ some rest
+  pub behind : parse_payload (drop (4064 * first_blocks p) p) ≡ Some rest
   pub joined : first ++ rest ≡ es
 
-pub split : (p : List ℕ) (es : List JournalEntry) → 0 < length p → length p % 4064 ≡ 0 → parse_payload p ≡ some es
+pub split : (p : List ℕ) (es : List JournalEntry) → 0 < length p → length p % 4064 ≡ 0 → parse_payload p ≡ Some es
     → Split p es
 unfolding first_blocks
 split p es more whole e =
@@ -138,7 +138,7 @@ module _ (n : ℕ) (card : List ℕ) (es : List JournalEntry) (v : Live n card e
       (omega arith) in
       let sum : d + (live_len card - d) ≡ live_len card = omega arith in
       let ll : length (live_image card) ≡ 4096 * live_len card = length_live n card is in
-      let agrees : lowest_damaged (d + (live_len card - d)) (live_image card) ≡ none = rw sum v.agrees in
+      let agrees : lowest_damaged (d + (live_len card - d)) (live_image card) ≡ None = rw sum v.agrees in
       let shorter : without_checksums (live_len card - d) (drop (4096 * d) (live_image card))
       ≡ drop (4064 * d) (without_checksums (live_len card) (live_image card)) =
       rw sum at (without_drop d (live_len card - d) (live_image card) (omega arith)) in

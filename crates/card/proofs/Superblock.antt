@@ -9,7 +9,7 @@ use Rattle.words.proofs.Words.{unpack_word}
 use Rattle.crc32c.specs.Crc32c.{checksum_bytes}
 use Rattle.crc32c.proofs.Range.{length_checksum_bytes}
 use Rattle.journal_entry.specs.Places.{word_at}
-use Rattle.journal_entry.proofs.Joined.{word_left, word_right}
+use Rattle.journal_entry.proofs.Joins.{word_left, word_right}
 use Rattle.card.specs.Superblock.{zeros, super_fields, super_payload, superblock}
 
 pub length_zeros : (n : ℕ) → length (zeros n) ≡ n

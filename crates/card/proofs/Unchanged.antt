@@ -2,7 +2,7 @@
 use mathlib.Core.Path.{◌≡◌, refl, sym, ap, ◌∙◌}
 use mathlib.Core.Bool.{Bool, true, false, cond}
 use mathlib.Core.List.{List, ◌++◌, append_assoc}
-use mathlib.Core.Option.{Option, none, some}
+use Rattle.std.specs.Prelude.{Option, None, Some}
 use Prim.Native.Nat.{ℕ, ◌+◌, ◌-◌, ◌*◌, ◌%◌, ◌≤◌, ◌<◌}
 use native.Mathlib.Omega.{arith}
 use borrow.Author.Tests.{leb-true, eqb-true, lt-ltb, le-ltb}
@@ -80,11 +80,11 @@ store_rows : {C : Type 0} (r f w : Bool) (o : Option ℕ) (p : Option (List Jour
 store_rows false f w o p l m x card kept put = kept refl
 store_rows true false w o p l m x card kept put = kept refl
 store_rows true true false o p l m x card kept put = kept refl
-store_rows true true true (some i) p l m x card kept put = kept refl
-store_rows true true true none none l m x card kept put = kept refl
-store_rows true true true none (some es) false m x card kept put = kept refl
-store_rows true true true none (some es) true false x card kept put = kept refl
-store_rows true true true none (some es) true true x card kept put = put refl refl refl refl
+store_rows true true true (Some i) p l m x card kept put = kept refl
+store_rows true true true None None l m x card kept put = kept refl
+store_rows true true true None (Some es) false m x card kept put = kept refl
+store_rows true true true None (Some es) true false x card kept put = kept refl
+store_rows true true true None (Some es) true true x card kept put = put refl refl refl refl
 
 release_rows : {C : Type 0} (r f s : Bool) (o : Option ℕ) (p : Option (List JournalEntry)) (k : ℕ) (x card : List ℕ)
     → (bytes_after (require r else 1 then require f else 18 then require s else 8 then undamaged o then given p
@@ -95,9 +95,9 @@ release_rows : {C : Type 0} (r f s : Bool) (o : Option ℕ) (p : Option (List Jo
 release_rows false f s o p k x card kept put = kept refl
 release_rows true false s o p k x card kept put = kept refl
 release_rows true true false o p k x card kept put = kept refl
-release_rows true true true (some i) p k x card kept put = kept refl
-release_rows true true true none none k x card kept put = kept refl
-release_rows true true true none (some es) k x card kept put = put refl refl
+release_rows true true true (Some i) p k x card kept put = kept refl
+release_rows true true true None None k x card kept put = kept refl
+release_rows true true true None (Some es) k x card kept put = put refl refl
 
 format_rows : {C : Type 0} (r s : Bool) (x card : List ℕ)
     → (bytes_after (require r else 1 then require s else 18 then gives (tt {0})) x card ≡ card → C)

@@ -1,10 +1,9 @@
 -- Block 0 written piece by piece, and tested piece by piece. Assumes nothing.
 use mathlib.Core.Path.{◌≡◌, sym, ap, ap₂, ◌∙◌}
-use mathlib.Core.Bool.{Bool, true, false, not}
+use mathlib.Core.Bool.{Bool, true, false}
 use mathlib.Core.List.{List, [], ◌++◌, append_assoc, append-nil}
 use Prim.Native.Nat.{ℕ}
 use native.Mathlib.Omega.{arith}
-use borrow.Author.Tests.{not-true, not-false}
 use lib.ListN.{length, take, drop, length-append, length-drop, take-append-drop, drop_of_length-le}
 use lib.Seq.{length-take-le, take_all, take-length, take_at, drop_at, drop-drop}
 use Rattle.refusals.proofs.Tests.{same, never, impossible}
@@ -91,31 +90,29 @@ module _ (b : List ℕ) (start len : ℕ) (h : length b ≡ 4096) where
 
   -- the fields are others
   pub fields_differ : (r : Bool) (f : List ℕ) → f ≡ super_fields start len → (take 14 (drop 32 b) ≡ f → r ≡ true)
-      → not r ≡ true
+      → r ≡ false
       → false ≡ same_bytes b (superblock start len)
-  fields_differ r f ef told fails =
-      not_it λ e. let t = told (fields_are e ∙ sym ef) in let g = not-true r fails in impossible cc
+  fields_differ r f ef told fails = not_it λ e. let t = told (fields_are e ∙ sym ef) in impossible cc
 
-  pub zeros_differ : (r : Bool) → r ≡ same_bytes tail_part (zeros (length tail_part)) → not r ≡ true
+  pub zeros_differ : (r : Bool) → r ≡ same_bytes tail_part (zeros (length tail_part)) → r ≡ false
       → false ≡ same_bytes b (superblock start len)
   zeros_differ r er fails =
       not_it λ e.
       let z : tail_part ≡ zeros (length tail_part) = rw tail_long (tail_is ∙ zeros_are e) in
       let t : same_bytes tail_part (zeros (length tail_part)) ≡ true = rw (← z) (same_refl tail_part) in
-      let g = not-true r fails in
       impossible cc
 
   pub agrees_decides : (r s t : Bool) (f : List ℕ) → f ≡ super_fields start len
-      → (r ≡ true → take 14 (drop 32 b) ≡ f) → not r ≡ false
-      → s ≡ same_bytes tail_part (zeros (length tail_part)) → not s ≡ false → t ≡ checksum_checks_out b
+      → (r ≡ true → take 14 (drop 32 b) ≡ f) → r ≡ true
+      → s ≡ same_bytes tail_part (zeros (length tail_part)) → s ≡ true → t ≡ checksum_checks_out b
       → t ≡ same_bytes b (superblock start len)
   unfolding checksum_checks_out super_payload superblock
   agrees_decides r s t f ef told hr es hs et =
       let F = super_fields start len in
       let P = F ++ zeros 4050 in
-      let fields : take 14 (drop 32 b) ≡ F = told (not-false r hr) ∙ ef in
+      let fields : take 14 (drop 32 b) ≡ F = told hr ∙ ef in
       let z : tail_part ≡ zeros 4050 =
-      rw tail_long at (same_equal tail_part (zeros (length tail_part)) (sym es ∙ not-false s hs)) in
+      rw tail_long at (same_equal tail_part (zeros (length tail_part)) (sym es ∙ hs)) in
       let p : drop 32 b ≡ P =
       sym (take-append-drop 14 (drop 32 b)) ∙ ap₂ ◌++◌ fields (drop-drop 14 32 b ∙ sym tail_is ∙ z) in
       let sums : t ≡ same_bytes (take 32 b) (checksum_bytes P) = rw p at et in

@@ -17,6 +17,13 @@ use Rattle.card.specs.Card.{card_sized, live_start, live_len, formed, live_image
 unfoldable pub rewritten : (card : List ℕ) (start len : ℕ) → List ℕ
 rewritten card start len = splice card 0 (superblock start len)
 
+-- the rows that each call but format tests first
+unfoldable pub formed_call : (n : ℕ) (card : List ℕ) → Outcome (Unit {0})
+formed_call n card =
+    require blocks_in_range n else 1 then
+    require formed n card else 18 then
+    gives tt
+
 -- FORMAT. "Formatting writes block 0 alone and makes the live interval (0, 0)"; it tests 1, "then only the length"
 unfoldable pub format_call : (n : ℕ) (card : List ℕ) → Outcome (Unit {0})
 format_call n card =

@@ -1,6 +1,6 @@
 -- What is found on a card at a cut: document 02, paper 3. Assumes nothing.
 use Rattle.std.specs.Prelude.{◌≡◌, cond, List, [], ◌∷◌, ◌++◌, ℕ, zero, suc, ◌+◌, ◌*◌, ◌≤◌, leb, length, take}
-use Rattle.std.proofs.Math.Option.{some}
+use Rattle.std.specs.Prelude.{Some}
 use Rattle.refusals.specs.Outcome.{gives}
 use Rattle.journal_entry.specs.Entry.{JournalEntry}
 use Rattle.journal_range.specs.Payload.{parse_payload}
@@ -14,14 +14,14 @@ pub record Finds (n : ℕ) (card : List ℕ) (es : List JournalEntry) : Type 0 w
   pub blocks : ℕ
   pub gives_blocks : (out : List ℕ) → 4064 * blocks ≤ length out → find_call n card out ≡ gives blocks
   pub reads : (out : List ℕ) → 4064 * blocks ≤ length out
-      → parse_payload (take (4064 * blocks) (found_output n card out)) ≡ some es
+      → parse_payload (take (4064 * blocks) (found_output n card out)) ≡ Some es
 
 -- the same of an image, by strip
 pub record Strips (image : List ℕ) (es : List JournalEntry) : Type 0 where
   pub gives_blocks : (out : List ℕ) → 4064 * image_blocks image ≤ length out
       → strip_call image out ≡ gives (image_blocks image)
   pub reads : (out : List ℕ) → 4064 * image_blocks image ≤ length out
-      → parse_payload (take (4064 * image_blocks image) (stripped_output image out)) ≡ some es
+      → parse_payload (take (4064 * image_blocks image) (stripped_output image out)) ≡ Some es
 
 -- the card after the calls told 0, 1, 2, .. , `calls` of them, with no other writer of the slice
 unfoldable pub after_calls : (n : ℕ) (card image : List ℕ) (calls : ℕ) → List ℕ

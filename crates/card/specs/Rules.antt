@@ -1,7 +1,7 @@
 -- What formatting and releasing leave to be found, and which blocks a call leaves alone: document 02, paper 3.
 -- Assumes nothing.
 use Rattle.std.specs.Prelude.{◌≡◌, true, false, cond, List, [], ◌++◌, ℕ, ◌+◌, ◌*◌, ◌≤◌, ◌<◌, ltb, length, take, drop}
-use Rattle.std.proofs.Math.Option.{some}
+use Rattle.std.specs.Prelude.{Some}
 use Rattle.refusals.specs.Outcome.{gives}
 use Rattle.disk_layout.specs.DiskLayout.{blocks_in_range}
 use Rattle.disk_layout.specs.JournalInterval.{interval, in_cyclic_range}
@@ -27,7 +27,7 @@ pub record AsReleased (n : ℕ) (card : List ℕ) (es : List JournalEntry) : Typ
   -- the first batch: its entries, and its blocks
   pub first : List JournalEntry
   pub blocks : ℕ
-  pub batch : front_batch (live_payload card) ≡ some (first, 4064 * blocks)
+  pub batch : front_batch (live_payload card) ≡ Some (first, 4064 * blocks)
   pub some_block : 1 ≤ blocks
   pub accepted : release_call n card ≡ gives blocks
   -- the list begins with them, and what is found is the rest

@@ -2,7 +2,7 @@
 -- Assumes nothing.
 use mathlib.Core.Path.{◌≡◌, sym, ap, ◌∙◌}
 use mathlib.Core.List.{List, [], ◌∷◌, ◌++◌, append_assoc, append-nil}
-use mathlib.Core.Option.{some}
+use Rattle.std.specs.Prelude.{Some}
 use Prim.Native.Nat.{ℕ, ◌*◌, ◌≤◌}
 use native.Mathlib.Omega.{arith}
 use lib.ListN.{length}
@@ -36,7 +36,7 @@ module _ (i : Image) (w : Whole i) where
   payload_long = length_without i.added i.bytes (omega (arith, w.size))
 
   -- one whole image that reads
-  strips : (l : List JournalEntry) → parse_payload (without_checksums i.added i.bytes) ≡ some l
+  strips : (l : List JournalEntry) → parse_payload (without_checksums i.added i.bytes) ≡ Some l
       → Strips i.bytes l
   strips l reads =
       let k = blocks_added in
@@ -52,13 +52,13 @@ module _ (i : Image) (w : Whole i) where
 
 -- images that read one by one, read joined
 pub reads_joined : (is : List Image) (ls : List (List JournalEntry)) → AllWhole is → AllStrip (bytes_of is) ls
-    → parse_payload (payloads is) ≡ some (concat_seq ls)
+    → parse_payload (payloads is) ≡ Some (concat_seq ls)
 unfolding payloads
 reads_joined [] [] a s = parse_payload_nil
 reads_joined [] (l ∷ ls) a s = absurd s
 reads_joined (i ∷ is) [] a s = absurd s
 reads_joined (i ∷ is) (l ∷ ls) a s =
-    let one : parse_payload (without_checksums i.added i.bytes) ≡ some l =
+    let one : parse_payload (without_checksums i.added i.bytes) ≡ Some l =
     rw (blocks_added i a.0) at (strips_checked i.bytes l s.0).reads in
     joining_payload (without_checksums i.added i.bytes) (payloads is) l (concat_seq ls)
     (omega (arith, payload_long i a.0)) (payloads_blocks is a.1) one

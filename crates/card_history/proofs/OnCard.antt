@@ -3,7 +3,7 @@
 use mathlib.Core.Path.{◌≡◌, refl, sym, ap, ap₂, ◌∙◌}
 use mathlib.Core.Bool.{Bool, true, false, cond}
 use mathlib.Core.List.{List, [], ◌∷◌, ◌++◌, append_assoc, append-nil}
-use mathlib.Core.Option.{some}
+use Rattle.std.specs.Prelude.{Some}
 use Prim.Native.Nat.{ℕ, ◌+◌, ◌*◌}
 use native.Mathlib.Omega.{arith}
 use lib.Dec.{leb}
@@ -38,13 +38,13 @@ counted (i ∷ is) a = ap₂ ◌+◌ (blocks_added i a.0) (counted is a.1)
 
 -- one image more reads as one list more
 one_more : (is : List Image) (i : Image) (es l : List JournalEntry) → AllWhole is → AllWhole (i ∷ [])
-    → parse_payload (payloads is) ≡ some es → Strips i.bytes l
-    → parse_payload (payloads (is ++ (i ∷ []))) ≡ some (es ++ l)
+    → parse_payload (payloads is) ≡ Some es → Strips i.bytes l
+    → parse_payload (payloads (is ++ (i ∷ []))) ≡ Some (es ++ l)
 one_more is i es l all one reads s =
     ap parse_payload (payloads_append is (i ∷ []))
     ∙ joining_payload (payloads is) (payloads (i ∷ [])) es l (payloads_blocks is all) (payloads_blocks (i ∷ []) one)
     reads
-    (reads_joined (i ∷ []) (l ∷ []) one (s, tt) ∙ ap some (append-nil l))
+    (reads_joined (i ∷ []) (l ∷ []) one (s, tt) ∙ ap Some (append-nil l))
 
 -- of the images in front of others
 in_front : (made : Bool) (earlier : List Image) (last : Image) (later : List Image)
@@ -90,7 +90,7 @@ on_card n r j ring cs o long m card range sized earlier last later is room calls
     }
   where
     same_list : (p q : List Image) (es fs gs : List JournalEntry) (made : Bool)
-        → parse_payload (payloads p) ≡ some es → parse_payload (payloads q) ≡ some fs
-        → parse_payload (payloads (cond made p q)) ≡ some gs → cond made es fs ≡ gs
+        → parse_payload (payloads p) ≡ Some es → parse_payload (payloads q) ≡ Some fs
+        → parse_payload (payloads (cond made p q)) ≡ Some gs → cond made es fs ≡ gs
     same_list p q es fs gs true e f g = cc
     same_list p q es fs gs false e f g = cc

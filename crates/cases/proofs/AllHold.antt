@@ -1,9 +1,9 @@
 -- The starred cases hold: each range by computation whether it reads, and then by the laws of a recovery; the
 -- others by computation. Assumes nothing.
-use mathlib.Core.Path.{◌≡◌, refl, sym, ap, ◌∙◌}
+use mathlib.Core.Path.{◌≡◌, refl, ap, ◌∙◌}
 use mathlib.Core.Bool.{true}
 use mathlib.Core.List.{List, [], append-nil}
-use mathlib.Core.Option.{none, some}
+use Rattle.std.specs.Prelude.{None, Some}
 use Prim.Native.Nat.{ℕ, ◌+◌, ◌%◌, ◌≤◌}
 use native.Mathlib.Omega.{arith}
 use lib.ListN.{length}
@@ -45,22 +45,21 @@ module _ (jr : JournalRange) (whole : length (concat_seq jr) % 4064 ≡ 0) (few 
   abbrev all : List ℕ
   all = concat_seq jr
 
-  unread : parse_payload all ≡ none → loaded jr ≡ refuses 14
+  unread : parse_payload all ≡ None → loaded jr ≡ refuses 14
   unfolding loaded
   unread e =
       let refused = not_recovered new all [] all [] new_hangs whole refl (omega arith) (omega arith) (omega arith)
       (omega arith) all (ap parse_payload (append-nil all) ∙ e) in
       rw (new_opened, refused)
 
-  read : (es : List JournalEntry) → parse_payload all ≡ some es → sum_journal_entries es ≤ length all → (more : ℕ)
+  read : (es : List JournalEntry) → parse_payload all ≡ Some es → sum_journal_entries es ≤ length all → (more : ℕ)
       → length es + more ≡ length all → loaded jr ≡ gives es
   unfolding loaded
   read es e fits more most =
       let r = recovers new all [] all [] new_hangs whole refl (omega arith) (omega arith) (omega arith)
       (omega arith) all es (ap parse_payload (append-nil all) ∙ e) fits in
-      let out : replayed (length all) r.after r.buffer ≡ es =
-      ap (λ (n : ℕ). replayed n r.after r.buffer) (sym most) ∙ r.replays more in
-      rw (new_opened, r.accepted) (ap gives out)
+      let out : replayed (length all) r.after r.buffer ≡ es = rw most at (r.replays more) in
+      rw (new_opened, r.accepted, out)
 
 -- the journal of the appends
 fresh_hangs : hangs_together (empty_record 5 16904) ≡ true

@@ -1,17 +1,21 @@
 -- Four bytes step the register as one number does, and by linearity what a word brings may be added later, stepped
 -- as far on: so words can be taken in turn by registers that do not wait for each other. Assumes nothing.
-use mathlib.Core.Path.{◌≡◌, refl, sym, ap, ap₂, ◌∙◌}
+use mathlib.Core.Path.{◌≡◌, refl, sym, ap, ap₂, subst, ◌∙◌}
 use mathlib.Core.List.{List, [], ◌∷◌, ◌++◌, foldl, foldl-append}
-use Prim.Native.Nat.{ℕ, zero, suc, ◌+◌, ◌*◌, ◌/◌, ◌%◌, ◌≤◌, ◌<◌}
+use Prim.Native.Nat.{ℕ, zero, suc, ◌+◌, ◌-◌, ◌*◌, ◌/◌, ◌%◌, ◌≤◌, ◌<◌}
 use native.Mathlib.Omega.{arith}
 use lib.Bits.{bit_xor, xor_comm, xor_zero_r}
 use lib.ListN.{length, take, drop, get_or, replicate, take-append-drop, length-drop, drop_of_length-le}
-use lib.Seq.{drop-cons, drop-drop, length-take-le, take_all}
+use lib.Seq.{drop-drop, length-take-le, take_all}
 use Rattle.crc32c_register.specs.Register.{step_bits, step_byte}
 use Rattle.crc32c_register.proofs.Xor.{xor_assoc}
 use Rattle.crc32c_register.proofs.Steps.{step_bits_xor, step_bits_add, step_bits_later}
 use Rattle.words.specs.Words.{unpack}
-use Rattle.words.proofs.Slices.{Bytes, bytes_take, bytes_drop, four}
+use Rattle.std.proofs.lemmas.List.{take-take}
+use Rattle.std.specs.Simd.{first_chunks}
+use Rattle.std.specs.Int.{from_le_bytes}
+use mir.Syntax.{w32}
+use Rattle.words.proofs.Slices.{Bytes, bytes_take, bytes_drop, drop_take, four}
 use Rattle.crc32c.specs.Lanes.{lanes}
 
 -- ---- bytes as one number
@@ -39,23 +43,59 @@ over_word s bytes h r =
 split_fold : (r : ℕ) (s : List ℕ) → foldl step_byte (foldl step_byte r (take 4 s)) (drop 4 s) ≡ foldl step_byte r s
 split_fold r s = sym (foldl-append step_byte r (take 4 s) (drop 4 s)) ∙ ap (foldl step_byte r) (take-append-drop 4 s)
 
--- ---- one byte at a turn
-
-pub from_next : (c i r : ℕ) (s : List ℕ) → i < length s → r ≡ step_byte c (get_or s i 0)
-    → foldl step_byte r (drop (i + 1) s) ≡ foldl step_byte c (drop i s)
-from_next c i r s h e =
-    let more : i + 1 ≡ suc i = omega arith in
-    ap₂ (λ (x k : ℕ). foldl step_byte x (drop k s)) e more ∙ sym (ap (foldl step_byte c) (drop-cons s i 0 h))
-
-pub from_end : (c i : ℕ) (s : List ℕ) → length s ≤ i → foldl step_byte c (drop i s) ≡ c
-from_end c i s h = ap (foldl step_byte c) (drop_of_length-le s h)
-
 -- ---- a word as the code puts it together
 
-word_of_bytes : (i w : ℕ) (s : List ℕ) → i + 4 ≤ length s
-    → w ≡ unpack (get_or s i 0 ∷ get_or s (i + 1) 0 ∷ get_or s (i + 2) 0 ∷ get_or s (i + 3) 0 ∷ [])
-    → w ≡ unpack (take 4 (drop i s))
-word_of_bytes i w s h e = e ∙ ap unpack (sym (four i s h))
+chunk_at : (k i : ℕ) (s : List ℕ) → i < k → get_or (first_chunks 4 k s) i [] ≡ take 4 (drop (4 * i) s)
+chunk_at zero i s h = elim h [ ]
+chunk_at (suc k) zero s h = refl
+chunk_at (suc k) (suc i) s h =
+    let e : 4 + 4 * i ≡ 4 * suc i = omega arith in
+    chunk_at k i (drop 4 s) (omega arith) ∙ ap (take 4) (drop-drop (4 * i) 4 s ∙ ap (λ (n : ℕ). drop n s) e)
+
+next_word : (i : ℕ) (s : List ℕ) → drop (4 * (i + 1)) s ≡ drop 4 (drop (4 * i) s)
+next_word i s =
+    let e : 4 * (i + 1) ≡ 4 * i + 4 = omega arith in ap (λ (n : ℕ). drop n s) e ∙ sym (drop-drop 4 (4 * i) s)
+
+unpack_four : (a b c d : ℕ) → from_le_bytes w32 (a ∷ b ∷ c ∷ d ∷ []) ≡ unpack (a ∷ b ∷ c ∷ d ∷ [])
+unpack_four a b c d = omega arith
+
+-- the word in chunk i of k
+pub word_of_chunk : (k i w : ℕ) (s : List ℕ) → 4 * k ≤ length s → i < k
+    → (ws : List (List ℕ)) → ws ≡ first_chunks 4 k s
+    → w ≡ from_le_bytes w32 (get_or ws i []) → w ≡ unpack (take 4 (drop (4 * i) s))
+word_of_chunk k i w s room h ws e ew =
+    let bytes = four (4 * i) s (omega arith) in
+    ew
+    ∙ ap (from_le_bytes w32) (ap (λ (l : List (List ℕ)). get_or l i []) e ∙ chunk_at k i s h ∙ bytes)
+    ∙ unpack_four _ _ _ _
+    ∙ ap unpack (sym bytes)
+
+-- the word of the first four bytes
+pub word_in_front : (s word : List ℕ) (w : ℕ) → 4 ≤ length s → word ≡ take 4 s → w ≡ from_le_bytes w32 word
+    → w ≡ unpack (take 4 s)
+word_in_front s word w h e ew =
+    let bytes = four 0 s h in
+    ew ∙ ap (from_le_bytes w32) (e ∙ bytes) ∙ unpack_four _ _ _ _ ∙ ap unpack (sym bytes)
+
+-- what is left of s behind a word, is what is left of s
+pub left_behind : (s rest behind : List ℕ) → rest ≡ drop (length s - length rest) s → behind ≡ drop 4 rest
+    → length behind + 4 ≡ length rest → behind ≡ drop (length s - length behind) s
+left_behind s rest behind e b n =
+    let long : length rest ≡ length s - (length s - length rest) =
+    ap length e ∙ length-drop (length s - length rest) s in
+    let further : length s - length rest + 4 ≡ length s - length behind = omega arith in
+    b ∙ ap (drop 4) e ∙ drop-drop 4 (length s - length rest) s ∙ ap (λ (k : ℕ). drop k s) further
+
+pub left_bytes : (s rest : List ℕ) → Bytes s → rest ≡ drop (length s - length rest) s → Bytes rest
+left_bytes s rest bytes e = subst Bytes (sym e) (bytes_drop (length s - length rest) s bytes)
+
+-- a word of the first n bytes
+pub front_word : (n i : ℕ) (front s : List ℕ) → front ≡ take n s → 4 * i + 4 ≤ n
+    → take 4 (drop (4 * i) front) ≡ take 4 (drop (4 * i) s)
+front_word n i front s e h =
+    ap (λ (l : List ℕ). take 4 (drop (4 * i) l)) e
+    ∙ ap (take 4) (drop_take (4 * i) n s)
+    ∙ take-take 4 (n - 4 * i) (drop (4 * i) s) (omega arith)
 
 -- ---- what is due
 
@@ -116,29 +156,36 @@ turn a b next due s bytes h e =
     ∙ ap (λ (y : ℕ). lanes y due (drop 4 s))
     (xor_comm b (step_bits 32 word) ∙ ap (λ (y : ℕ). bit_xor y b) (sym (over_word s bytes (omega arith) a)))
 
--- the same at place i, with three that are due
-pub turn_at : (s : List ℕ) → Bytes s → (a b c d i w next : ℕ) → i + 16 ≤ length s
-    → w ≡ unpack (get_or s i 0 ∷ get_or s (i + 1) 0 ∷ get_or s (i + 2) 0 ∷ get_or s (i + 3) 0 ∷ [])
+-- four registers in rotation: the first takes the bytes, what the others hold is due
+pub in_rotation : (rs t : List ℕ) → length rs ≡ 4
+    → lanes (get_or rs 0 0) (get_or rs 1 0 ∷ get_or rs 2 0 ∷ get_or rs 3 0 ∷ []) t ≡ lanes (get_or rs 0 0) (drop 1 rs) t
+in_rotation rs t h =
+    let whole = sym (four 0 rs (omega arith)) ∙ take_all 4 rs (omega arith) in
+    ap (λ (l : List ℕ). lanes (get_or rs 0 0) (drop 1 l) t) whole
+
+-- the same at word i, with three that are due
+pub turn_at : (s : List ℕ) → Bytes s → (a b c d i w next : ℕ) → 4 * i + 16 ≤ length s
+    → w ≡ unpack (take 4 (drop (4 * i) s))
     → next ≡ step_bits 128 (bit_xor a w)
-    → lanes b (c ∷ d ∷ next ∷ []) (drop (i + 4) s) ≡ lanes a (b ∷ c ∷ d ∷ []) (drop i s)
+    → lanes b (c ∷ d ∷ next ∷ []) (drop (4 * (i + 1)) s) ≡ lanes a (b ∷ c ∷ d ∷ []) (drop (4 * i) s)
 turn_at s bytes a b c d i w next h ew en =
-    ap (lanes b (c ∷ d ∷ next ∷ [])) (sym (drop-drop 4 i s))
-    ∙ turn a b next (c ∷ d ∷ []) (drop i s) (bytes_drop i s bytes) (omega (arith, length-drop i s))
-    (en ∙ ap (λ (x : ℕ). step_bits 128 (bit_xor a x)) (word_of_bytes i w s (omega arith) ew))
+    ap (lanes b (c ∷ d ∷ next ∷ [])) (next_word i s)
+    ∙ turn a b next (c ∷ d ∷ []) (drop (4 * i) s) (bytes_drop (4 * i) s bytes) (omega (arith, length-drop (4 * i) s))
+    (en ∙ ap (λ (x : ℕ). step_bits 128 (bit_xor a x)) ew)
 
 -- one turn of the last words: what is due first is added, and nothing more is due
-pub due_turn : (s : List ℕ) → Bytes s → (r b c d i w next : ℕ) → i + 4 ≤ length s
-    → w ≡ unpack (get_or s i 0 ∷ get_or s (i + 1) 0 ∷ get_or s (i + 2) 0 ∷ get_or s (i + 3) 0 ∷ [])
+pub due_turn : (s : List ℕ) → Bytes s → (r b c d i w next : ℕ) → 4 * i + 4 ≤ length s
+    → w ≡ unpack (take 4 (drop (4 * i) s))
     → next ≡ step_bits 32 (bit_xor r w)
-    → lanes (bit_xor next b) (c ∷ d ∷ 0 ∷ []) (drop (i + 4) s) ≡ lanes r (b ∷ c ∷ d ∷ []) (drop i s)
+    → lanes (bit_xor next b) (c ∷ d ∷ 0 ∷ []) (drop (4 * (i + 1)) s) ≡ lanes r (b ∷ c ∷ d ∷ []) (drop (4 * i) s)
 unfolding lanes
 due_turn s bytes r b c d i w next h ew en =
-    let t = drop i s in
+    let t = drop (4 * i) s in
     let stepped : next ≡ foldl step_byte r (take 4 t) =
-    en ∙ ap (λ (x : ℕ). step_bits 32 (bit_xor r x)) (word_of_bytes i w s h ew)
-    ∙ sym (over_word t (bytes_drop i s bytes) (omega (arith, length-drop i s)) r) in
-    nothing_more (c ∷ d ∷ []) (bit_xor next b) (drop (i + 4) s)
-    ∙ ap₂ (λ (x : ℕ) (l : List ℕ). lanes (bit_xor x b) (c ∷ d ∷ []) l) stepped (sym (drop-drop 4 i s))
+    en ∙ ap (λ (x : ℕ). step_bits 32 (bit_xor r x)) ew
+    ∙ sym (over_word t (bytes_drop (4 * i) s bytes) (omega (arith, length-drop (4 * i) s)) r) in
+    nothing_more (c ∷ d ∷ []) (bit_xor next b) (drop (4 * (i + 1)) s)
+    ∙ ap₂ (λ (x : ℕ) (l : List ℕ). lanes (bit_xor x b) (c ∷ d ∷ []) l) stepped (next_word i s)
 
 -- and their end: fewer bytes than a word are left, and what is still due is added behind them
 pub due_end : (r b c d : ℕ) (t : List ℕ) → length t < 4

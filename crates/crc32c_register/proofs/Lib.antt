@@ -1,3 +1,3 @@
 pub mod Xor
 pub mod Steps
-pub mod Turns
+pub mod Rows

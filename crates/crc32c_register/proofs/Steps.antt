@@ -3,16 +3,18 @@
 -- nothing.
 use mathlib.Core.Path.{◌≡◌, refl, sym, ap, ap₂, ◌∙◌}
 use Prim.Native.Nat.{ℕ, zero, suc, ◌+◌, ◌*◌, ◌/◌, ◌%◌, ◌^◌, ◌<◌}
-use native.Mathlib.Nat.{mul-mod_left, zero-add, suc-add, mul_assoc, pow-suc, mod-lt}
+use native.Mathlib.Nat.{mul-mod_left, zero-add, suc-add, mul_assoc, pow-suc, mod-lt, div-div-eq-div-mul}
 use native.Mathlib.Omega.{arith}
-use lib.Bits.{bit_xor, differ, xor_comm, xor_shifted}
+use lib.Bits.{bit_xor, xor_comm, xor_shifted, xor_shr}
 use lib.Pow.{split, pow_pos}
+use Rattle.std.proofs.Common.{pow-add}
+use Rattle.std.proofs.lemmas.Nat.{xor_mod}
 use Rattle.crc32c_register.specs.Register.{polynomial, step_bit, step_bits, step_byte}
-use Rattle.crc32c_register.proofs.Xor.{xor_half, xor_odd, xor_cross, xor_assoc}
+use Rattle.crc32c_register.proofs.Xor.{xor_cross, xor_assoc}
 
 -- ---- linearity
 
-times : (u v : ℕ) → u < 2 → v < 2 → differ u v * polynomial ≡ bit_xor (u * polynomial) (v * polynomial)
+times : (u v : ℕ) → u < 2 → v < 2 → bit_xor u v * polynomial ≡ bit_xor (u * polynomial) (v * polynomial)
 times zero v hu hv = refl
 times (suc zero) zero hu hv = refl
 times (suc zero) (suc zero) hu hv = refl
@@ -23,8 +25,8 @@ step_bit_xor : (x y : ℕ) → step_bit (bit_xor x y) ≡ bit_xor (step_bit x) (
 unfolding step_bit
 step_bit_xor x y =
     ap₂ bit_xor
-    (ap (λ (u : ℕ). u * polynomial) (xor_odd x y) ∙ times (x % 2) (y % 2) (omega arith) (omega arith))
-    (xor_half x y)
+    (ap (λ (u : ℕ). u * polynomial) (xor_mod x y 1) ∙ times (x % 2) (y % 2) (omega arith) (omega arith))
+    (xor_shr x y 1)
     ∙ xor_cross (x % 2 * polynomial) (y % 2 * polynomial) (x / 2) (y / 2)
 
 pub step_bits_xor : (n x y : ℕ) → step_bits n (bit_xor x y) ≡ bit_xor (step_bits n x) (step_bits n y)
@@ -71,6 +73,15 @@ step_bits_digit w m x =
 pub by_digit : (w m x : ℕ) {t u : ℕ} → t ≡ step_bits (w + m) (x % 2 ^ w) → u ≡ step_bits m (x / 2 ^ w)
     → bit_xor t u ≡ step_bits (w + m) x
 by_digit w m x low high = ap₂ bit_xor low high ∙ sym (step_bits_digit w m x)
+
+further : (k w x : ℕ) → x / 2 ^ (k + w) ≡ x / 2 ^ k / 2 ^ w
+further k w x = ap (λ (u : ℕ). x / u) (pow-add 2 k w) ∙ sym (div-div-eq-div-mul x (2 ^ k) (2 ^ w))
+
+-- the same at a place of x
+pub by_digit_at : (w m place x : ℕ) {t u : ℕ} → t ≡ step_bits (w + m) (x / 2 ^ place % 2 ^ w)
+    → u ≡ step_bits m (x / 2 ^ (place + w)) → bit_xor t u ≡ step_bits (w + m) (x / 2 ^ place)
+by_digit_at w m place x low high =
+    by_digit w m (x / 2 ^ place) low (high ∙ ap (step_bits m) (further place w x))
 
 -- a byte's steps are those of its two halves
 pub by_halves : (register byte : ℕ) {half whole : ℕ} → half ≡ step_bits 4 (bit_xor register byte)

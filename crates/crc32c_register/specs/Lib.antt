@@ -1,1 +1,2 @@
 pub mod Register
+pub mod Rows

@@ -1,15 +1,15 @@
 -- Laws of the definitions on intervals. Assumes nothing.
 use Prim.Native.Nat.{ℕ, ◌+◌, ◌-◌, ◌≤◌, ◌<◌}
 use mathlib.Core.Bool.{Bool, true, false, cond, ◌&&◌, or-true}
-use mathlib.Core.Path.{◌≡◌, refl, sym, ◌∙◌}
+use mathlib.Core.Path.{◌≡◌, refl}
 use lib.Dec.{leb, ltb}
 use native.Mathlib.Omega.{arith}
-use borrow.Author.Tests.{leb-true, ltb-true, le-leb, lt-ltb, le-ltb}
+use borrow.Author.Tests.{leb-true, ltb-true, le-leb, lt-ltb}
 use Rattle.disk_layout.specs.declared.JournalInterval.{JournalInterval}
 use Rattle.disk_layout.specs.DiskLayout.{blocks_in_range}
 use Rattle.disk_layout.specs.JournalInterval.{valid_journal_interval, contiguous_journal_interval, in_cyclic_range}
 use Rattle.disk_layout.specs.JournalInterval.{next_start_point}
-use Rattle.refusals.proofs.Tests.{both, either, same, never}
+use Rattle.refusals.proofs.Tests.{both, either, never}
 
 -- what each test tells of its numbers, and back
 pub range_facts : (n : ℕ) → blocks_in_range n ≡ true → (1 ≤ n) × (n ≤ 1024)
@@ -50,19 +50,6 @@ both_facts n a b h =
     let f = valid_facts n a p.0 in
     let g = valid_facts n b p.1 in
     record { a_start = f.0; a_len = f.1; b_start = g.0; b_len = g.1 }
-
--- an interval does not wrap where its length is within the room behind its start
-pub contiguous_room : (n : ℕ) (i : JournalInterval) → i.start < n
-    → leb i.len (n - i.start) ≡ contiguous_journal_interval n i
-contiguous_room n i s =
-    same (leb i.len (n - i.start)) (contiguous_journal_interval n i)
-    (λ h. contiguous_true n i s (omega (arith, leb-true i.len (n - i.start) h)))
-    (λ h. le-leb i.len (n - i.start) (omega (arith, contiguous_facts n i h)))
-
--- and not where it starts past the region
-pub contiguous_past : (n : ℕ) (i : JournalInterval) → n ≤ i.start → ltb i.start n ≡ contiguous_journal_interval n i
-contiguous_past n i s =
-    le-ltb i.start n s ∙ sym (never (contiguous_journal_interval n i) (λ h. omega (arith, contiguous_facts n i h)))
 
 -- a block is one of the interval's as it stands or N places further on,
 pub in_told : {C : Type 0} (n i : ℕ) (x : JournalInterval) → in_cyclic_range n i x ≡ true

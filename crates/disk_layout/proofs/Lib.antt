@@ -3,4 +3,3 @@ pub mod Parts
 pub mod Overlap
 pub mod Sharing
 pub mod Locations
-pub mod Determined

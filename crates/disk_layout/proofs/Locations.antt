@@ -1,16 +1,17 @@
 -- Laws of the definitions on locations. Assumes nothing.
 use Prim.Native.Nat.{ℕ, ◌+◌, ◌-◌, ◌*◌, ◌/◌, ◌%◌, ◌≤◌, ◌<◌}
-use mathlib.Core.Bool.{true, false, ◌&&◌}
-use mathlib.Core.Path.{◌≡◌, sym, ◌∙◌}
+use mathlib.Core.Bool.{true, ◌&&◌}
+use mathlib.Core.Path.{◌≡◌}
 use lib.Dec.{leb, ltb, eqb}
 use native.Mathlib.Omega.{arith}
-use borrow.Author.Tests.{leb-true, ltb-true, eqb-true, le-leb, lt-ltb, le-ltb, eq-eqb}
+use borrow.Author.Tests.{leb-true, ltb-true, eqb-true, le-leb, lt-ltb, eq-eqb}
 use Rattle.disk_layout.specs.declared.Location.{Location}
 use Rattle.disk_layout.specs.declared.JournalInterval.{JournalInterval}
 use Rattle.disk_layout.specs.DiskLayout.{blocks_in_range, journal_start_addr, journal_end_addr, journal_point}
 use Rattle.disk_layout.specs.DiskLayout.{valid_journal_location, journal_range_location}
 use Rattle.disk_layout.specs.JournalInterval.{interval, contiguous_journal_interval, journal_interval_of_location}
-use Rattle.refusals.proofs.Tests.{both, same, never}
+use Rattle.std.proofs.lemmas.Bool.Decides.{nat_tests}
+use Rattle.refusals.proofs.Tests.{both, same}
 use Rattle.disk_layout.proofs.Intervals.{range_facts, contiguous_facts, contiguous_true}
 
 -- the numbers of a valid location
@@ -59,23 +60,17 @@ location_true n loc h f =
       le-leb (a + l) ((2 + n) * 4096) f.end,
     )
 
--- a location is not valid where one of those facts fails
-pub location_none : (n : ℕ) (loc : Location) → (InRegion n loc → ⊥) → false ≡ valid_journal_location n loc
-location_none n loc f = sym (never (valid_journal_location n loc) (λ h. f (location_facts n loc h)))
+-- the tests of a location, its end compared without a sum
+pub location_tests : (n : ℕ) (loc : Location) → n ≤ 1024
+    → valid_journal_location n loc
+    ≡ (eqb (loc.addr % 4096) 0 && eqb (loc.len % 4096) 0 && leb 8192 loc.addr && ltb loc.addr ((2 + n) * 4096)
+    && leb loc.len ((2 + n) * 4096 - loc.addr))
+location_tests n loc h =
+    same (valid_journal_location n loc) _ (λ v. let f = location_facts n loc v in grind (arith, nat_tests))
+    (λ t. location_true n loc h (grind (arith, nat_tests)))
 
--- nor where it starts past the region
-pub location_past : (n : ℕ) (loc : Location) → (2 + n) * 4096 ≤ loc.addr
-    → ltb loc.addr ((2 + n) * 4096) ≡ valid_journal_location n loc
-location_past n loc h = le-ltb loc.addr ((2 + n) * 4096) h ∙ location_none n loc (λ f. omega (arith, f.high))
-
--- whole blocks that start in the region are valid where their bytes are within those left behind the address
-pub location_room : (n : ℕ) (loc : Location) → n ≤ 1024 → loc.addr % 4096 ≡ 0 → loc.len % 4096 ≡ 0
-    → 8192 ≤ loc.addr → loc.addr < (2 + n) * 4096
-    → leb loc.len ((2 + n) * 4096 - loc.addr) ≡ valid_journal_location n loc
-location_room n loc h a l s e =
-    same (leb loc.len ((2 + n) * 4096 - loc.addr)) (valid_journal_location n loc)
-    (λ t. location_true n loc h (omega (arith, leb-true loc.len ((2 + n) * 4096 - loc.addr) t)))
-    (λ t. le-leb loc.len ((2 + n) * 4096 - loc.addr) (omega (arith, location_facts n loc t)))
+pub location_low : (n : ℕ) (loc : Location) → valid_journal_location n loc ≡ true → 8192 ≤ loc.addr
+location_low n loc h = (location_facts n loc h).low
 
 -- an interval that does not wrap has a valid location
 pub location_valid : (n : ℕ) (i : JournalInterval) → blocks_in_range n ≡ true → contiguous_journal_interval n i ≡ true

@@ -1,9 +1,10 @@
 -- Laws of overlap. Assumes nothing.
 use Prim.Native.Nat.{ℕ, ◌+◌, ◌-◌, ◌<◌}
-use mathlib.Core.Bool.{Bool, true, false, not, ◌&&◌, cond, and_comm, and-true, and-false, or-false}
+use mathlib.Core.Bool.{Bool, true, false, not, ◌&&◌, ◌||◌, cond, and_comm, and-true, and-false, or-false}
 use mathlib.Core.Path.{◌≡◌, refl}
 use lib.Dec.{ltb, eqb}
 use native.Mathlib.Omega.{arith}
+use Rattle.std.proofs.Common.{zero-add}
 use borrow.Author.Tests.{le-leb, lt-leb, lt-ltb, le-ltb, ne_eqb, ltb-true, ltb-false, eqb-true, eqb-false}
 use Rattle.disk_layout.specs.declared.JournalInterval.{JournalInterval}
 use Rattle.disk_layout.specs.JournalInterval.{interval, valid_journal_interval, in_cyclic_range}
@@ -114,3 +115,18 @@ empty_overlap n s b h v = go (ltb n (b.start + b.len)) (ltb b.start s) (eqb s b.
           le-ltb (s + n) (b.start + b.len) (omega arith),
           and-false,
         )
+
+-- the tests of an interval that wraps, and the cases of overlap
+pub wrapped_tests : (n : ℕ) (a b : JournalInterval) → wrapped_overlap n a b
+    ≡ (ltb b.start (a.start + (n - a.start)) && ltb a.start (b.start + b.len)
+    || ltb b.start (a.len - (n - a.start)) && ltb 0 (b.start + b.len))
+unfolding wrapped_overlap journal_interval_overlap
+wrapped_tests n a b = rw zero-add
+
+pub overlap_cases : (n : ℕ) (a b : JournalInterval) → journal_cyclic_interval_overlap n a b
+    ≡ cond (ltb n (a.start + a.len))
+    (cond (ltb n (b.start + b.len)) true (wrapped_overlap n a b))
+    (cond (ltb n (b.start + b.len)) (wrapped_overlap n b a)
+    (ltb b.start (a.start + a.len) && ltb a.start (b.start + b.len)))
+unfolding journal_cyclic_interval_overlap journal_interval_overlap
+overlap_cases n a b = refl

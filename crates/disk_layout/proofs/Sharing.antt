@@ -11,7 +11,7 @@ use Rattle.disk_layout.specs.JournalInterval.{interval, valid_journal_interval, 
 use Rattle.disk_layout.specs.JournalInterval.{journal_interval_overlap, wrapped_overlap}
 use Rattle.disk_layout.specs.JournalInterval.{journal_cyclic_interval_overlap, some_below, shares_block}
 use Rattle.refusals.proofs.Tests.{both, either, same, never, impossible}
-use Rattle.disk_layout.proofs.Intervals.{BothValid, both_facts, in_told, in_here, in_on}
+use Rattle.disk_layout.proofs.Intervals.{BothValid, both_facts, valid_true, in_told, in_here, in_on}
 
 -- where `some_below` says so, there is a number below k that passes the test,
 below_told : (k : ℕ) (test : ℕ → Bool) → some_below k test ≡ true → (i : ℕ) × (i < k) × (test i ≡ true)
@@ -56,6 +56,9 @@ pub empty_shares : (n : ℕ) (a b : JournalInterval) → a.len ≡ 0 → shares_
 empty_shares n a b z =
     never (shares_block n a b) λ h.
     let s = (shares_exactly n a b).0 h in in_told n s.0 a s.2 (λ e f. omega arith) (λ e f. omega arith)
+
+pub shares_empty : (n : ℕ) (a b : JournalInterval) → b.len ≡ 0 → shares_block n a b ≡ false
+shares_empty n a b z = shares_symmetric n a b ∙ empty_shares n b a z
 
 -- Of two intervals that do not wrap: where they overlap and have blocks, a block lies in both,
 between_told : (x y : JournalInterval) → 0 < x.len → 0 < y.len → journal_interval_overlap x y ≡ true → (i : ℕ)
@@ -172,3 +175,11 @@ shares_overlap n a b valid k l = go (ltb n (a.start + a.len)) (ltb n (b.start + 
           in_here n i a r.1 r.2,
           in_here n i b r.3 r.4,
         ))
+
+-- the same by the intervals' numbers
+pub shares_nonempty : (n : ℕ) (a b : JournalInterval) → a.start < n → a.len ≤ n → b.start < n → b.len ≤ n
+    → 0 < a.len → 0 < b.len → shares_block n a b ≡ journal_cyclic_interval_overlap n a b
+shares_nonempty n a b p q r s k l = shares_overlap n a b (simp (valid_true n a p q, valid_true n b r s)) k l
+
+-- what the code's cases are
+pub ruleset shares_cases = (empty_shares, shares_empty, shares_nonempty)

@@ -1,7 +1,7 @@
 -- What each call comes to: document 01, "Places in the region" and the row "places 1, 16" of "When a call says no".
 -- Assumes nothing.
 use Rattle.std.specs.Prelude.{Bool, ◌&&◌, ℕ, leb}
-use Rattle.std.proofs.Math.Option.{Option}
+use Rattle.std.specs.Prelude.{Option}
 use Rattle.refusals.specs.Outcome.{Outcome, gives, require◌else◌then◌}
 use Rattle.disk_layout.specs.declared.JournalInterval.{JournalInterval}
 use Rattle.disk_layout.specs.declared.Location.{Location}

@@ -1,7 +1,7 @@
 -- Cyclic intervals of the journal's blocks: BlockCacheSystem/JournalInterval.i.dfy, with N (here n) for
 -- `NumJournalBlocks()`. Assumes nothing.
 use Rattle.std.specs.Prelude.{Bool, true, false, ◌&&◌, ◌||◌, cond, ℕ, zero, suc, ◌+◌, ◌-◌, ◌/◌, leb, ltb, eqb}
-use Rattle.std.proofs.Math.Option.{Option, none, some}
+use Rattle.std.specs.Prelude.{Option, None, Some}
 use Rattle.disk_layout.specs.declared.JournalInterval.{JournalInterval}
 use Rattle.disk_layout.specs.declared.Location.{Location}
 use Rattle.disk_layout.specs.DiskLayout.{journal_start_addr}
@@ -27,12 +27,12 @@ in_cyclic_range n i indices =
 -- front: the part up to the region's end, none of an empty interval
 unfoldable pub journal_front_interval : (n start len : ℕ) → Option JournalInterval
 journal_front_interval n start len =
-    cond (eqb len 0) none (some (interval start (cond (leb len (n - start)) len (n - start))))
+    cond (eqb len 0) None (Some (interval start (cond (leb len (n - start)) len (n - start))))
 
 -- back: the part from block 0 on, none where the interval does not wrap
 unfoldable pub journal_back_interval : (n start len : ℕ) → Option JournalInterval
 journal_back_interval n start len =
-    cond (eqb len 0) none (cond (leb len (n - start)) none (some (interval 0 (len - (n - start)))))
+    cond (eqb len 0) None (cond (leb len (n - start)) None (Some (interval 0 (len - (n - start)))))
 
 -- contained: a lies within b, as it stands or N places further on
 unfoldable pub subinterval : (n : ℕ) → JournalInterval → JournalInterval → Bool

@@ -1,4 +1,3 @@
 pub mod DiskLayout
 pub mod JournalInterval
-pub mod Answers
 pub mod Calls

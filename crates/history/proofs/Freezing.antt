@@ -2,7 +2,7 @@
 -- place in the order. Assumes nothing.
 use mathlib.Core.Path.{◌≡◌, refl, sym, ap, ap₂, ◌∙◌, subst}
 use mathlib.Core.List.{List, [], ◌∷◌, ◌++◌, append_assoc, append-nil}
-use mathlib.Core.Option.{none}
+use Rattle.std.specs.Prelude.{None}
 use Prim.Native.Nat.{ℕ, ◌+◌, ◌-◌, ◌*◌, ◌≤◌}
 use native.Mathlib.Omega.{arith}
 use lib.ListN.{length, take, length-append}
@@ -42,7 +42,7 @@ module _ (n : ℕ) (w : World) (i : Invariant n w) where
   freeze_holds (e ∷ es) = omega arith
 
   frozen : Invariant n (following w freezing
-      (leaves (gives (frozen_record w.journalist)) w.journalist w.ring none))
+      (leaves (gives (frozen_record w.journalist)) w.journalist w.ring None))
   unfolding frozen_record wires
   frozen =
       let a = i.after in
@@ -77,7 +77,7 @@ module _ (n : ℕ) (w : World) (i : Invariant n w) where
       }
 
   pub after_freeze : Invariant n (following w freezing
-      (leaves (freeze_call w.journalist) w.journalist w.ring none))
+      (leaves (freeze_call w.journalist) w.journalist w.ring None))
   unfolding freeze_call
   after_freeze = rw i.hangs frozen
 
@@ -98,7 +98,7 @@ module _ (n : ℕ) (w : World) (i : Invariant n w) where
       ∙ ap (λ (x : List JournalEntry). x ++ w.lists.memory) (sym i.frozen_split)
 
   thawed : Invariant n (following w thawing
-      (leaves (gives (thawed_record w.journalist)) w.journalist w.ring none))
+      (leaves (gives (thawed_record w.journalist)) w.journalist w.ring None))
   thawed =
       let a = i.after in
       let j = w.journalist in
@@ -135,7 +135,7 @@ module _ (n : ℕ) (w : World) (i : Invariant n w) where
         last_holds = omega arith;
       }
 
-  pub after_thaw : Invariant n (following w thawing (leaves (thaw_call w.journalist) w.journalist w.ring none))
+  pub after_thaw : Invariant n (following w thawing (leaves (thaw_call w.journalist) w.journalist w.ring None))
   after_thaw =
       after_call n w i thawing (thaw_call w.journalist) λ j h.
       let (t, is) = thaw_taken w.journalist j h in

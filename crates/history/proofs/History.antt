@@ -2,7 +2,7 @@
 use mathlib.Core.Path.{◌≡◌, sym, ◌∙◌}
 use mathlib.Core.Bool.{true, false}
 use mathlib.Core.List.{List, [], ◌∷◌}
-use mathlib.Core.Option.{some}
+use Rattle.std.specs.Prelude.{Some}
 use Prim.Native.Nat.{ℕ}
 use lib.ListN.{length, take}
 use Rattle.refusals.specs.Outcome.{gives, refuses}
@@ -59,8 +59,8 @@ history n r j ring cs o long =
 pub record InOrder (w : World) : Type 0 where
   pub hangs : hangs_together w.journalist ≡ true
   pub ring_long : length w.ring ≡ w.journalist.ring
-  pub frozen_reads_as : frozen_read w.journalist w.ring ≡ some w.lists.frozen
-  pub memory_reads_as : memory_read w.journalist w.ring ≡ some w.lists.memory
+  pub frozen_reads_as : frozen_read w.journalist w.ring ≡ Some w.lists.frozen
+  pub memory_reads_as : memory_read w.journalist w.ring ≡ Some w.lists.memory
   pub ring_reads_lem : ring_reads w.journalist w.ring ≡ true
 
 pub in_order : (n r : ℕ) (j : Journalist) (ring : List ℕ) (cs : List Call) → open_call n r ≡ gives j → length ring ≡ r

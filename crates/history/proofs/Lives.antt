@@ -2,7 +2,8 @@
 -- joining. Assumes nothing.
 use mathlib.Core.Path.{◌≡◌, refl, sym, ap, ◌∙◌}
 use mathlib.Core.List.{List, [], ◌++◌}
-use mathlib.Core.Option.{some}
+use Rattle.std.specs.Prelude.{Some}
+use Rattle.std.proofs.lemmas.List.{append_cancel_left}
 use Prim.Native.Nat.{ℕ, zero, suc, ◌+◌, ◌%◌}
 use native.Mathlib.Omega.{arith}
 use lib.ListN.{length, length-append}
@@ -13,7 +14,6 @@ use Rattle.journal_range.proofs.Behind.{reads_behind}
 use Rattle.history.specs.History.{payloads}
 use Rattle.history.specs.Crash.{Replays}
 use Rattle.history.specs.Lives.{Life, Lives, LivesRule}
-use Rattle.history.proofs.Stretch.{front_off}
 use Rattle.history.proofs.Crash.{replays, entries_read}
 
 -- one life more
@@ -27,13 +27,13 @@ after_life payload es payload' es' h l =
     let rest : length l.left % 4064 ≡ 0 = omega arith in
     reads_behind l.dropped l.left l.gone es at rest l.dropped_reads
     (ap parse_payload l.in_two ∙ h.reads) λ gs left-reads both.
-    let stay : gs ≡ l.stay = front_off l.gone gs l.stay (both ∙ sym l.lists_in_two) in
+    let stay : gs ≡ l.stay = append_cancel_left l.gone gs l.stay (both ∙ sym l.lists_in_two) in
     let (kept_blocks, kept_reads) =
     entries_read l.n l.r l.journalist l.ring l.opens l.ring_long l.calls l.earlier
     l.kept l.entries l.entries_of_lem in
     let all : length (l.left ++ payloads l.kept) % 4064 ≡ 0 = rw length-append (omega arith) in
     let reads = joining_payload l.left (payloads l.kept) l.stay l.entries rest kept_blocks
-    (left-reads ∙ ap some stay) kept_reads in
+    (left-reads ∙ ap Some stay) kept_reads in
     rw (← l.payload_after, ← l.entries_after)
     (replays (l.left ++ payloads l.kept) (l.stay ++ l.entries) all reads)
 

@@ -2,7 +2,7 @@
 -- nothing.
 use mathlib.Core.Path.{◌≡◌, refl}
 use mathlib.Core.List.{List}
-use mathlib.Core.Option.{none}
+use Rattle.std.specs.Prelude.{None}
 use Prim.Native.Nat.{ℕ}
 use Rattle.refusals.specs.Outcome.{Outcome, gives, refuses, refuses_block}
 use Rattle.journalist.specs.declared.Journalist.{Journalist}
@@ -27,7 +27,7 @@ module _ (n : ℕ) (w : World) (i : Invariant n w) where
   same = record { replay = j.replay; front = j.front; back = j.back; is = refl; hangs = i.hangs }
 
   -- a call that answers something else than a record
-  keeps : {A : Type 0} (o : Outcome A) → Invariant n (following w another (leaves (keeping j o) j w.ring none))
+  keeps : {A : Type 0} (o : Outcome A) → Invariant n (following w another (leaves (keeping j o) j w.ring None))
   keeps (gives a) = after_other n w i (gives j) (λ k e. answered k e)
     where
       answered : (k : Journalist) → gives j ≡ gives k → Recovered n w i k
@@ -35,7 +35,7 @@ module _ (n : ℕ) (w : World) (i : Invariant n w) where
   keeps (refuses number) = i
   keeps (refuses_block number block) = i
 
-  pub after_query : (q : Query) → Invariant n (following w another (leaves (asked q j) j w.ring none))
+  pub after_query : (q : Query) → Invariant n (following w another (leaves (asked q j) j w.ring None))
   after_query frozen_query = keeps (query_call j _)
   after_query in_memory_query = keeps (query_call j _)
   after_query written_query = keeps (query_call j _)
@@ -45,7 +45,7 @@ module _ (n : ℕ) (w : World) (i : Invariant n w) where
   after_query clones_query = keeps (query_call j _)
 
   pub after_top : (replay : List ℕ)
-      → Invariant n (following w another (leaves (keeping j (replay_journal_top_call j replay)) j w.ring none))
+      → Invariant n (following w another (leaves (keeping j (replay_journal_top_call j replay)) j w.ring None))
   after_top replay = keeps (replay_journal_top_call j replay)
 
   front_set : (payload front : List ℕ) (k : Journalist) → set_front_call j payload front ≡ gives k → Recovered n w i k
@@ -59,7 +59,7 @@ module _ (n : ℕ) (w : World) (i : Invariant n w) where
       }
 
   pub after_front : (payload front : List ℕ)
-      → Invariant n (following w another (leaves (set_front_call j payload front) j w.ring none))
+      → Invariant n (following w another (leaves (set_front_call j payload front) j w.ring None))
   after_front payload front = after_other n w i (set_front_call j payload front) (front_set payload front)
 
   back_set : (payload back : List ℕ) (k : Journalist) → set_back_call j payload back ≡ gives k → Recovered n w i k
@@ -73,7 +73,7 @@ module _ (n : ℕ) (w : World) (i : Invariant n w) where
       }
 
   pub after_back : (payload back : List ℕ)
-      → Invariant n (following w another (leaves (set_back_call j payload back) j w.ring none))
+      → Invariant n (following w another (leaves (set_back_call j payload back) j w.ring None))
   after_back payload back = after_other n w i (set_back_call j payload back) (back_set payload back)
 
   loaded : (front back replay : List ℕ) (k : Journalist) → parse_journals_call j front back replay ≡ gives k
@@ -89,7 +89,7 @@ module _ (n : ℕ) (w : World) (i : Invariant n w) where
       }
 
   pub after_load : (front back replay : List ℕ)
-      → Invariant n (following w another (leaves (parse_journals_call j front back replay) j w.ring none))
+      → Invariant n (following w another (leaves (parse_journals_call j front back replay) j w.ring None))
   after_load front back replay = after_other n w i (parse_journals_call j front back replay) (loaded front back replay)
 
   popped : (replay : List ℕ) (k : Journalist) → replay_journal_pop_call j replay ≡ gives k → Recovered n w i k
@@ -103,5 +103,5 @@ module _ (n : ℕ) (w : World) (i : Invariant n w) where
       }
 
   pub after_pop : (replay : List ℕ)
-      → Invariant n (following w another (leaves (replay_journal_pop_call j replay) j w.ring none))
+      → Invariant n (following w another (leaves (replay_journal_pop_call j replay) j w.ring None))
   after_pop replay = after_other n w i (replay_journal_pop_call j replay) (popped replay)

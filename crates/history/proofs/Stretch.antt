@@ -2,11 +2,11 @@
 -- at most. Assumes nothing.
 use mathlib.Core.Path.{◌≡◌, refl, sym, ap, ◌∙◌}
 use mathlib.Core.List.{List, [], ◌∷◌, ◌++◌, append_assoc, append-nil}
-use mathlib.Core.Option.{Option, none, some}
+use Rattle.std.specs.Prelude.{Option, None, Some}
+use Rattle.std.proofs.lemmas.List.{append_cancel_left}
 use Prim.Native.Nat.{ℕ}
 use native.Mathlib.Omega.{arith}
-use lib.ListN.{length, drop, length-append}
-use lib.Seq.{drop-append_seam}
+use lib.ListN.{length, length-append}
 use Rattle.history.specs.Calls.{Call, told_of, step}
 use Rattle.history.specs.History.{Image, World, handed, following, run}
 
@@ -15,15 +15,11 @@ unfolding run
 run_append w [] ds = refl
 run_append w (c ∷ cs) ds = run_append (following w (told_of c) (step c w.journalist w.ring)) cs ds
 
--- the same list in front
-pub front_off : {A : Type 0} (a b c : List A) → a ++ b ≡ a ++ c → b ≡ c
-front_off a b c e = sym (drop-append_seam a b) ∙ ap (drop (length a)) e ∙ drop-append_seam a c
-
 -- a call hands out no image, or one
 one_or_none : {C : Type 0} (o : Option (List ℕ)) (added : ℕ) (is : List Image)
     → (handed o added is ≡ is → C) → ((i : Image) → handed o added is ≡ is ++ (i ∷ []) → C) → C
-one_or_none none added is same more = same refl
-one_or_none (some bytes) added is same more = more (record { bytes = bytes; added = added }) refl
+one_or_none None added is same more = same refl
+one_or_none (Some bytes) added is same more = more (record { bytes = bytes; added = added }) refl
 
 -- the world behind one call
 abbrev next : World → Call → World
@@ -62,7 +58,7 @@ stretch w (c ∷ cs) (i ∷ first) rest e k =
     grown (next w c) cs λ new g.
     let all : w.images ++ (x ∷ new) ≡ w.images ++ (i ∷ (first ++ rest)) =
     sym (append_assoc w.images (x ∷ []) new) ∙ ap (λ (is : List Image). is ++ new) (sym more) ∙ sym g ∙ e in
-    let tails = front_off w.images (x ∷ new) (i ∷ (first ++ rest)) all in
+    let tails = append_cancel_left w.images (x ∷ new) (i ∷ (first ++ rest)) all in
     let one : x ≡ i = cc in
     let others : new ≡ first ++ rest = cc in
     stretch (next w c) cs first rest

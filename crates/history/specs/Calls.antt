@@ -1,10 +1,10 @@
 -- The calls of demand 3 and of document 02, and what each leaves: made of the definitions that the functions'
 -- promises cite, so that the history is one of the code. Assumes nothing.
-use Rattle.std.specs.Prelude.{Bool, true, false, List, ℕ, ◌*◌, take}
-use Rattle.std.proofs.Math.Option.{Option, none, some}
+use Rattle.std.specs.Prelude.{Bool, true, false, List, ℕ, ◌*◌, take, Option, None, Some}
 use Rattle.refusals.specs.Outcome.{Outcome, gives, refuses, refuses_block, into}
 use Rattle.journal_entry.specs.Entry.{JournalEntry}
 use Rattle.journalist.specs.declared.Journalist.{Journalist}
+use Rattle.journalist.specs.declared.Packaged.{Packaged}
 use Rattle.journalist.specs.Calls.{freeze_call, thaw_call, set_written_journal_len_call}
 use Rattle.journalist.specs.Calls.{update_written_journal_len_call}
 use Rattle.journalist.specs.Calls.{query_call, has_frozen_journal, has_in_memory_journal, is_replay_empty, present}
@@ -75,13 +75,13 @@ abbrev pub keeping : {A : Type 0} → Journalist → Outcome A → Outcome Journ
 keeping j o = into (λ answer. j) o
 
 -- the image is what lies in the output after a packaging, as far as the blocks that it answers
-abbrev pub record_of : Outcome (Journalist × ℕ) → Outcome Journalist
-record_of o = into (λ answer. answer.0) o
+abbrev pub record_of : Outcome Packaged → Outcome Journalist
+record_of o = into (λ answer. answer.journalist) o
 
-abbrev pub image_in : Outcome (Journalist × ℕ) → (out : List ℕ) → Option (List ℕ)
-image_in (gives answer) out = some (take (4096 * answer.1) out)
-image_in (refuses number) out = none
-image_in (refuses_block number block) out = none
+abbrev pub image_in : Outcome Packaged → (out : List ℕ) → Option (List ℕ)
+image_in (gives answer) out = Some (take (4096 * answer.blocks) out)
+image_in (refuses number) out = None
+image_in (refuses_block number block) out = None
 
 abbrev pub asked : Query → Journalist → Outcome Journalist
 asked frozen_query j = keeping j (query_call j (has_frozen_journal j))
@@ -93,20 +93,20 @@ asked back_query j = keeping j (query_call j (present j.back))
 asked clones_query j = keeping j (query_call j j.clones)
 
 abbrev pub step : Call → Journalist → (ring : List ℕ) → Left
-step (append e) j ring = leaves (append_call j ring e) j (ring_appended j ring e) none
-step freeze j ring = leaves (freeze_call j) j ring none
-step thaw j ring = leaves (thaw_call j) j ring none
+step (append e) j ring = leaves (append_call j ring e) j (ring_appended j ring e) None
+step freeze j ring = leaves (freeze_call j) j ring None
+step thaw j ring = leaves (thaw_call j) j ring None
 step (package_frozen_journal out) j ring =
     let o = package_frozen_journal_call j ring out in
     leaves (record_of o) j ring (image_in o (frozen_packaged j ring out))
 step (package_in_memory_journal out) j ring =
     let o = package_in_memory_journal_call j ring out in
     leaves (record_of o) j ring (image_in o (memory_packaged j ring out))
-step (set_written_journal_len len) j ring = leaves (set_written_journal_len_call j len) j ring none
-step (update_written_journal_len len) j ring = leaves (update_written_journal_len_call j len) j ring none
-step (set_front payload front) j ring = leaves (set_front_call j payload front) j ring none
-step (set_back payload back) j ring = leaves (set_back_call j payload back) j ring none
-step (parse_journals front back replay) j ring = leaves (parse_journals_call j front back replay) j ring none
-step (replay_journal_top replay) j ring = leaves (keeping j (replay_journal_top_call j replay)) j ring none
-step (replay_journal_pop replay) j ring = leaves (replay_journal_pop_call j replay) j ring none
-step (query q) j ring = leaves (asked q j) j ring none
+step (set_written_journal_len len) j ring = leaves (set_written_journal_len_call j len) j ring None
+step (update_written_journal_len len) j ring = leaves (update_written_journal_len_call j len) j ring None
+step (set_front payload front) j ring = leaves (set_front_call j payload front) j ring None
+step (set_back payload back) j ring = leaves (set_back_call j payload back) j ring None
+step (parse_journals front back replay) j ring = leaves (parse_journals_call j front back replay) j ring None
+step (replay_journal_top replay) j ring = leaves (keeping j (replay_journal_top_call j replay)) j ring None
+step (replay_journal_pop replay) j ring = leaves (replay_journal_pop_call j replay) j ring None
+step (query q) j ring = leaves (asked q j) j ring None

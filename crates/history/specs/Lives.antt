@@ -1,7 +1,6 @@
 -- A unit's lives, one after another on the same card: what lies there after any number of them, and the entries
 -- that it stands for. Assumes nothing.
-use Rattle.std.specs.Prelude.{◌≡◌, List, [], ◌++◌, ℕ, zero, suc, ◌%◌, length}
-use Rattle.std.proofs.Math.Option.{some}
+use Rattle.std.specs.Prelude.{◌≡◌, List, [], ◌++◌, ℕ, zero, suc, ◌%◌, length, Some}
 use Rattle.refusals.specs.Outcome.{gives}
 use Rattle.journal_entry.specs.Entry.{JournalEntry}
 use Rattle.journal_range.specs.Payload.{parse_payload}
@@ -28,7 +27,7 @@ pub record Life (payload : List ℕ) (es : List JournalEntry) (payload' : List �
   pub at_a_block : length dropped % 4064 ≡ 0
   pub gone : List JournalEntry
   pub stay : List JournalEntry
-  pub dropped_reads : parse_payload dropped ≡ some gone
+  pub dropped_reads : parse_payload dropped ≡ Some gone
   pub lists_in_two : gone ++ stay ≡ es
   -- behind the rest lie consecutive images that it handed out
   pub earlier : List Image

@@ -1,4 +1,3 @@
 pub mod Places
 pub mod Damage
-pub mod Walks
 pub mod Ranges

@@ -1,12 +1,16 @@
 -- Where the payload's bytes stand in an image. Assumes nothing.
-use mathlib.Core.Path.{◌≡◌, sym, ap, ◌∙◌}
+use mathlib.Core.Path.{◌≡◌, refl, sym, ap, ◌∙◌}
+use mathlib.Core.Bool.{Bool, true, false, cond}
+use Rattle.std.specs.Prelude.{Option, None, Some}
 use mathlib.Core.List.{List, ◌++◌}
 use Prim.Native.Nat.{ℕ, zero, suc, ◌+◌, ◌-◌, ◌*◌, ◌/◌, ◌%◌, ◌≤◌, ◌<◌}
 use native.Mathlib.Omega.{arith}
+use borrow.Author.Tests.{lt-ltb, le-ltb, ltb-true, ltb-false}
+use lib.Dec.{ltb}
 use lib.ListN.{length, take, drop, get_or, length-drop, length-append, get_or-eq_default}
 use lib.Seq.{get_or-drop, get_or-take}
 use Rattle.journal_entry.specs.Places.{word_at}
-use Rattle.journal_entry.proofs.Joined.{get_d_left, get_d_right, word_bytes, word_past}
+use Rattle.journal_entry.proofs.Joins.{get_d_left, get_d_right, word_bytes, word_past}
 use Rattle.journal_image.specs.Image.{without_checksums}
 use Rattle.journal_image.proofs.Payloads.{length_payload, length_without}
 use Rattle.journal_image.proofs.Blocks.{without_drop}
@@ -62,17 +66,17 @@ module _ (s : List ℕ) (p : ℕ) where
       ∙ byte_there (length s / 4096) (p / 4064) (p % 4064 + i) s (omega arith) below inside
       ∙ ap (λ (n : ℕ). get_or s n 0) e₂
 
-  pub byte_inside : p < length (image_payload s) → get_or s (place_of p) 0 ≡ get_or (image_payload s) p 0
+  byte_inside : p < length (image_payload s) → get_or s (place_of p) 0 ≡ get_or (image_payload s) p 0
   byte_inside h =
       let e₁ : p + 0 ≡ p = omega arith in
       let e₂ : place_of p + 0 ≡ place_of p = omega arith in
       sym (rw (e₁, e₂) at (bytes_from h 0 (omega arith)))
 
-  pub byte_behind : length (image_payload s) ≤ p → 0 ≡ get_or (image_payload s) p 0
+  byte_behind : length (image_payload s) ≤ p → 0 ≡ get_or (image_payload s) p 0
   byte_behind h = sym (get_or-eq_default (image_payload s) 0 h)
 
   -- a word that ends in the block where it starts
-  pub word_inside : p < length (image_payload s) → p % 4064 ≤ 4060
+  word_inside : p < length (image_payload s) → p % 4064 ≤ 4060
       → word_at s (place_of p) ≡ word_at (image_payload s) p
   word_inside h inside =
       omega (
@@ -85,8 +89,51 @@ module _ (s : List ℕ) (p : ℕ) where
         bytes_from h 3 (omega arith),
       )
 
-  pub word_behind : length (image_payload s) ≤ p → 0 ≡ word_at (image_payload s) p
+  word_behind : length (image_payload s) ≤ p → 0 ≡ word_at (image_payload s) p
   word_behind h = sym (word_past (image_payload s) p h)
+
+  -- The place, if p is one of the payload's.
+
+  abbrev pub place_in : Option ℕ
+  place_in = cond (ltb p (length (image_payload s))) (Some (place_of p)) None
+
+  pub placed : p / 4064 < length s / 4096 → Some (place_of p) ≡ place_in
+  placed h = rw (lt-ltb p (length (image_payload s)) (omega (arith, length_image_payload s)))
+
+  pub unplaced : length s / 4096 ≤ p / 4064 → None ≡ place_in
+  unplaced h = rw (le-ltb p (length (image_payload s)) (omega (arith, length_image_payload s)))
+
+  -- and back
+  place_told : (at : ℕ) → place_in ≡ Some at → (p < length (image_payload s)) × (at ≡ place_of p)
+  place_told at e = go (ltb p (length (image_payload s))) refl e
+    where
+      go : (t : Bool) → ltb p (length (image_payload s)) ≡ t → cond t (Some (place_of p)) None ≡ Some at
+          → (p < length (image_payload s)) × (at ≡ place_of p)
+      go true is x = (ltb-true p (length (image_payload s)) is, cc)
+      go false is x = let z : ◌≡◌ {A = ℕ} 0 1 = cc in absurd (omega arith)
+
+  place_none : place_in ≡ None → length (image_payload s) ≤ p
+  place_none e = go (ltb p (length (image_payload s))) refl e
+    where
+      go : (t : Bool) → ltb p (length (image_payload s)) ≡ t → cond t (Some (place_of p)) None ≡ None
+          → length (image_payload s) ≤ p
+      go true is x = let z : ◌≡◌ {A = ℕ} 0 1 = cc in absurd (omega arith)
+      go false is x = ltb-false p (length (image_payload s)) is
+
+  pub byte_placed : (at : ℕ) → place_in ≡ Some at → get_or s at 0 ≡ get_or (image_payload s) p 0
+  byte_placed at e = let (h, is) = place_told at e in rw is (byte_inside h)
+
+  pub byte_unplaced : place_in ≡ None → 0 ≡ get_or (image_payload s) p 0
+  byte_unplaced e = byte_behind (place_none e)
+
+  pub word_placed : (at : ℕ) → place_in ≡ Some at → p % 4064 ≤ 4060 → word_at s at ≡ word_at (image_payload s) p
+  word_placed at e inside = let (h, is) = place_told at e in rw is (word_inside h inside)
+
+  pub word_unplaced : place_in ≡ None → 0 ≡ word_at (image_payload s) p
+  word_unplaced e = word_behind (place_none e)
+
+-- what the readers of a byte and of a word are proved by
+pub ruleset places = (placed, unplaced, byte_placed, byte_unplaced, word_placed, word_unplaced, word_bytes)
 
 -- THE PART FROM A BLOCK ON: its payload is the payload from there on
 pub payload_behind : (s : List ℕ) (j : ℕ) → j ≤ length s / 4096

@@ -1,8 +1,7 @@
 -- An image read where it lies, as two parts joined: its payload, which the readers read, and its lowest damaged
 -- block. Document 02, papers 3 and 14. Assumes nothing.
-use Rattle.std.specs.Prelude.{Bool, true, false, List, ℕ, ◌/◌, length}
-use Rattle.std.proofs.Math.Option.{Option, none, some}
-use Rattle.journal_entry.specs.Entry.{JournalEntry}
+use Rattle.std.specs.Prelude.{List, ℕ, ◌/◌, length}
+use Rattle.std.specs.Prelude.{Option}
 use Rattle.journal_image.specs.Image.{without_checksums, lowest_damaged, or_else}
 
 -- the payload of an image's whole blocks; bytes behind the last whole block count for nothing
@@ -15,8 +14,3 @@ unfoldable pub lowest_of_two : (a b : List ℕ) → Option ℕ
 lowest_of_two a b =
     let blocks = length a / 4096 in
     or_else blocks (lowest_damaged blocks a) (lowest_damaged (length b / 4096) b)
-
--- whether a range reads
-abbrev pub is_read : Option (List JournalEntry) → Bool
-is_read (some es) = true
-is_read none = false

@@ -1,5 +1,10 @@
 -- Calls on a card for C: the block that is named is small enough for its code, and a lent buffer changes only where
 -- the word of answer finds room. Assumes nothing.
+use Rattle.std.specs.Prelude.{Err}
+use Rattle.refusals.proofs.Tests.{impossible}
+use Rattle.refusals.specs.Answers.{image_outcome_of}
+use Rattle.refusals.specs.declared.ImageRefusal.{ImageRefusal}
+use Rattle.refusals.specs.declared.ImageRefusal.TheVariants.{ChecksumDiffers, Plain}
 use mathlib.Core.Path.{◌≡◌, refl}
 use mathlib.Core.List.{List}
 use Prim.Native.Nat.{ℕ, ◌^◌, ◌≤◌, ◌<◌}
@@ -72,3 +77,10 @@ stored_keeps n card image made = bytes_keep (store_call n card image made) (with
 pub released_keeps : (n : ℕ) (card : List ℕ) → Keeps (release_call n card) (released n card) card
 unfolding released
 released_keeps n card = bytes_keep (release_call n card) (without_first n card) card
+
+-- a refusal is one whatever the result would have been
+pub named_any : {A B : Type 0} (why : ImageRefusal) (number block : ℕ)
+    → image_outcome_of {A = A} (Err why) ≡ refuses_block number block
+    → image_outcome_of {A = B} (Err why) ≡ refuses_block number block
+named_any (ChecksumDiffers i) number block e = let n : 12 ≡ number = cc in let b : i ≡ block = cc in rw (n, b)
+named_any (Plain why) number block e = impossible cc

@@ -2,16 +2,13 @@
 // words behind stay; 9 where there is none, tested last: then nothing is stored or written.
 ghost use Rattle.std.specs.Prelude.{◌≡◌, ◌^◌, ◌<◌};
 ghost use Rattle.refusals.specs.Outcome.{into, bytes_after};
-ghost use Rattle.journal_image.specs.Strip.{blocks_outcome};
 ghost use Rattle.card.specs.Calls.{format_call, formatted, found_output, stored, released};
-ghost use Rattle.card.specs.Answers.{stored_outcome};
+ghost use Rattle.refusals.specs.Answers.{image_outcome_of};
 ghost use Rattle.record_words.specs.Calls.{code_of};
 ghost use Rattle.journal_c.specs.Numbers.{output_after, answers_with, number_words, test_words};
 ghost use Rattle.journal_c.specs.Cards.{block_named, card_find, card_store, card_release};
 
-use crate::answers::answer_one;
-use card::{Formatted, Stored};
-use journal_image::BlocksAnswer;
+use crate::answers::{number, reply};
 
 // Makes the live interval (0, 0): 1, 18.
 #[unsafe(no_mangle)]
@@ -19,24 +16,9 @@ pub extern "C" fn journal_card_format(n: u64, card: &mut [u8]) -> u64
     ensures value { result ≡ code_of (format_call n card.old) }
     ensures card_new { card.new ≡ formatted n card.old }
 {
-    let answer = card::format(n, card);
-    match answer {
-        Formatted::Done => 0,
-        Formatted::Refused(why) => refusals::number(why),
-    }
-}
-
-fn answer_blocks(answer: &mut [u64], told: BlocksAnswer) -> u64
-    requires { block_named (blocks_outcome told) < 2 ^ 52 }
-    ensures value { result ≡ code_of (answers_with (into number_words (blocks_outcome told)) answer.old) }
-    ensures answer_new { answer.new
-        ≡ output_after answer.old
-        (answers_with (into number_words (blocks_outcome told)) answer.old) }
-{
-    match told {
-        BlocksAnswer::Blocks(blocks) => answer_one(answer, blocks as u64),
-        BlocksAnswer::ChecksumDiffers(block) => 12 + 256 * block as u64,
-        BlocksAnswer::Refused(why) => refusals::number(why),
+    match card::format(n, card) {
+        Ok(()) => 0,
+        Err(why) => why.into(),
     }
 }
 
@@ -52,24 +34,14 @@ pub extern "C" fn journal_card_find(n: u64, card: &[u8], out: &mut [u8], answer:
         ≡ output_after answer.old
         (card_find n card.now out.old answer.old) }
 {
-    if answer.len() < 1 {
-        return answer_blocks(answer, card::find_test(n, card, out.len()));
-    }
-    answer_blocks(answer, card::find(n, card, out))
-}
-
-fn answer_stored(answer: &mut [u64], told: Stored) -> u64
-    requires { block_named (stored_outcome told) < 2 ^ 52 }
-    ensures value { result ≡ code_of (answers_with (into test_words (stored_outcome told)) answer.old) }
-    ensures answer_new { answer.new
-        ≡ output_after answer.old
-        (answers_with (into test_words (stored_outcome told)) answer.old) }
-{
+    let told = if answer.len() < 1 {
+        card::find_test(n, card, out.len())
+    } else {
+        card::find(n, card, out)
+    };
     match told {
-        Stored::Made => answer_one(answer, 1),
-        Stored::NoneLeft => answer_one(answer, 0),
-        Stored::ChecksumDiffers(block) => 12 + 256 * block as u64,
-        Stored::Refused(why) => refusals::number(why),
+        Ok(blocks) => reply(answer, [blocks as u64]),
+        Err(why) => number(why),
     }
 }
 
@@ -91,10 +63,15 @@ pub extern "C" fn journal_card_store(
         ≡ output_after answer.old
         (card_store n card.old image.now made answer.old) }
 {
-    if answer.len() < 1 {
-        return answer_stored(answer, card::store_test(n, card, image, made));
+    let told = if answer.len() < 1 {
+        card::store_test(n, card, image, made)
+    } else {
+        card::store(n, card, image, made)
+    };
+    match told {
+        Ok(made) => reply(answer, [u64::from(made)]),
+        Err(why) => number(why),
     }
-    answer_stored(answer, card::store(n, card, image, made))
 }
 
 // Drops the first batch from the live interval, and the blocks dropped: 1, 18, 8, 12, 14.
@@ -107,8 +84,13 @@ pub extern "C" fn journal_card_release(n: u64, card: &mut [u8], answer: &mut [u6
     ensures answer_new { answer.new
         ≡ output_after answer.old (card_release n card.old answer.old) }
 {
-    if answer.len() < 1 {
-        return answer_blocks(answer, card::release_test(n, card));
+    let told = if answer.len() < 1 {
+        card::release_test(n, card)
+    } else {
+        card::release(n, card)
+    };
+    match told {
+        Ok(blocks) => reply(answer, [blocks as u64]),
+        Err(why) => number(why),
     }
-    answer_blocks(answer, card::release(n, card))
 }

@@ -2,7 +2,7 @@
 -- 02, paper 4; for ranges see `Limits` in journal_range. Assumes nothing.
 use mathlib.Core.Path.{◌≡◌, sym, subst}
 use mathlib.Core.Bool.{true}
-use mathlib.Core.Option.{some}
+use Rattle.std.specs.Prelude.{Some}
 use mathlib.Core.List.{List, [], ◌∷◌}
 use Prim.Native.Nat.{ℕ, zero, suc, ◌-◌, ◌≤◌}
 use native.Mathlib.Omega.{arith}
@@ -52,8 +52,8 @@ none_longer a b (journal_clone from to ∷ es) w short = (
 
 -- What reads at a, and is within b, reads at b as the same: an entry, so many of them with what is behind, and without.
 
-entry_again : (a b : ℕ) (s : List ℕ) (r : JournalEntry × List ℕ) → parse_entry_at a s ≡ some r → WithinAt b r.0
-    → parse_entry_at b s ≡ some r
+entry_again : (a b : ℕ) (s : List ℕ) (r : JournalEntry × List ℕ) → parse_entry_at a s ≡ Some r → WithinAt b r.0
+    → parse_entry_at b s ≡ Some r
 unfolding parse_entry_at
 entry_again a b s r e w =
     bind_parts (read_word s) _ r e λ x₁ f₁ e₁.
@@ -67,8 +67,8 @@ entry_again a b s r e w =
     within_true b it (subst (λ (x : JournalEntry × List ℕ). WithinAt b x.0) (sym er) w) in
     rw (f₁, f₂, f₃, f₄, ok) e₅
 
-read_again : (a b n : ℕ) (s : List ℕ) (r : List JournalEntry × List ℕ) → read_entries_at a n s ≡ some r
-    → AllWithinAt b r.0 → read_entries_at b n s ≡ some r
+read_again : (a b n : ℕ) (s : List ℕ) (r : List JournalEntry × List ℕ) → read_entries_at a n s ≡ Some r
+    → AllWithinAt b r.0 → read_entries_at b n s ≡ Some r
 unfolding read_entries_at
 read_again a b zero s r e w = e
 read_again a b (suc n) s r e w =
@@ -79,8 +79,8 @@ read_again a b (suc n) s r e w =
     subst (λ (x : List JournalEntry × List ℕ). AllWithinAt b x.0) (sym er) w in
     rw (entry_again a b s x₁ f₁ v.0, read_again a b n x₁.1 x₂ f₂ v.1) e₂
 
-pub entries_again : (a b n : ℕ) (s : List ℕ) (es : List JournalEntry) → parse_entries_at a n s ≡ some es
-    → AllWithinAt b es → parse_entries_at b n s ≡ some es
+pub entries_again : (a b n : ℕ) (s : List ℕ) (es : List JournalEntry) → parse_entries_at a n s ≡ Some es
+    → AllWithinAt b es → parse_entries_at b n s ≡ Some es
 unfolding parse_entries_at
 entries_again a b n s es e w =
     bind_parts (read_entries_at a n s) _ es e λ r e₁ e₂.
@@ -88,7 +88,7 @@ entries_again a b n s es e w =
     rw (read_again a b n s r e₁ (subst (AllWithinAt b) (sym ee) w)) e₂
 
 -- and what reads at a limit is within it
-pub entries_within : (limit n : ℕ) (s : List ℕ) (es : List JournalEntry) → parse_entries_at limit n s ≡ some es
+pub entries_within : (limit n : ℕ) (s : List ℕ) (es : List JournalEntry) → parse_entries_at limit n s ≡ Some es
     → AllWithinAt limit es
 unfolding parse_entries_at
 entries_within limit n s es e =

@@ -2,7 +2,7 @@
 use mathlib.Core.Path.{◌≡◌, refl, sym, ap, ◌∙◌}
 use mathlib.Core.Bool.{Bool, true, false, cond}
 use mathlib.Core.List.{List, [], ◌∷◌, ◌++◌, append_assoc}
-use mathlib.Core.Option.{Option, none, some, map}
+use Rattle.std.specs.Prelude.{Option, None, Some, option_map}
 use Prim.Native.Nat.{ℕ, zero, suc, ◌+◌, ◌*◌, ◌≤◌}
 use native.Mathlib.Omega.{arith}
 use lib.ListN.{length, take, drop, length-drop, take-append-drop}
@@ -24,17 +24,17 @@ without_append (suc a) b p q h =
     (sym (append_assoc (drop 32 (take 4096 p)) (without_checksums a (drop 4096 p)) (without_checksums b q)))
 
 -- no block in front
-from_none : (o : Option ℕ) → o ≡ or_else 0 none o
-from_none none = refl
-from_none (some i) = let e : i ≡ 0 + i = omega arith in ap some e
+from_none : (o : Option ℕ) → o ≡ or_else 0 None o
+from_none None = refl
+from_none (Some i) = let e : i ≡ 0 + i = omega arith in ap Some e
 
 -- one block more in front of both
 one_more : (t : Bool) (a : ℕ) (o p : Option ℕ)
-    → cond t (map suc (or_else a o p)) (some 0) ≡ or_else (suc a) (cond t (map suc o) (some 0)) p
+    → cond t (option_map suc (or_else a o p)) (Some 0) ≡ or_else (suc a) (cond t (option_map suc o) (Some 0)) p
 one_more false a o p = refl
-one_more true a (some i) p = refl
-one_more true a none none = refl
-one_more true a none (some i) = let e : suc (a + i) ≡ suc a + i = omega arith in ap some e
+one_more true a (Some i) p = refl
+one_more true a None None = refl
+one_more true a None (Some i) = let e : suc (a + i) ≡ suc a + i = omega arith in ap Some e
 
 pub lowest_append : (a b : ℕ) (p q : List ℕ) → length p ≡ 4096 * a
     → lowest_damaged (a + b) (p ++ q) ≡ or_else a (lowest_damaged a p) (lowest_damaged b q)
@@ -49,8 +49,8 @@ lowest_append (suc a) b p q h =
     (one_more (checksum_checks_out (take 4096 p)) a (lowest_damaged a (drop 4096 p)) (lowest_damaged b q))
 
 -- both parts agree, so all does
-pub agrees_append : (a b : ℕ) (p q : List ℕ) → length p ≡ 4096 * a → lowest_damaged a p ≡ none
-    → lowest_damaged b q ≡ none → lowest_damaged (a + b) (p ++ q) ≡ none
+pub agrees_append : (a b : ℕ) (p q : List ℕ) → length p ≡ 4096 * a → lowest_damaged a p ≡ None
+    → lowest_damaged b q ≡ None → lowest_damaged (a + b) (p ++ q) ≡ None
 agrees_append a b p q h x y = lowest_append a b p q h ∙ rw (x, y)
 
 -- Behind the first a blocks.
@@ -69,14 +69,14 @@ module _ (a b : ℕ) (p : List ℕ) (h : 4096 * a ≤ length p) where
       ∙ without_append a b front rest front_long)
       ∙ drop_at (without_checksums a front) (without_checksums b rest) (4064 * a) long)
 
-  pub agrees_drop : lowest_damaged (a + b) p ≡ none → lowest_damaged b (drop (4096 * a) p) ≡ none
+  pub agrees_drop : lowest_damaged (a + b) p ≡ None → lowest_damaged b (drop (4096 * a) p) ≡ None
   agrees_drop x =
       behind (lowest_damaged a (take (4096 * a) p)) (lowest_damaged b (drop (4096 * a) p))
       (sym (lowest_append a b (take (4096 * a) p) (drop (4096 * a) p) front_long)
       ∙ ap (lowest_damaged (a + b)) (take-append-drop (4096 * a) p)
       ∙ x)
     where
-      behind : (o q : Option ℕ) → or_else a o q ≡ none → q ≡ none
-      behind (some i) q e = absurd (let z : ◌≡◌ {A = ℕ} 0 1 = cc in omega arith)
-      behind none none e = refl
-      behind none (some i) e = absurd (let z : ◌≡◌ {A = ℕ} 0 1 = cc in omega arith)
+      behind : (o q : Option ℕ) → or_else a o q ≡ None → q ≡ None
+      behind (Some i) q e = absurd (let z : ◌≡◌ {A = ℕ} 0 1 = cc in omega arith)
+      behind None None e = refl
+      behind None (Some i) e = absurd (let z : ◌≡◌ {A = ℕ} 0 1 = cc in omega arith)

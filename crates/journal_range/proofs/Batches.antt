@@ -1,7 +1,7 @@
 -- What the batch in front reads as, told by facts in the place of tests. Assumes nothing.
 use mathlib.Core.Path.{◌≡◌, refl, sym, ap, ◌∙◌}
 use mathlib.Core.Bool.{Bool, true, false, ◌&&◌}
-use mathlib.Core.Option.{Option, none, some}
+use Rattle.std.specs.Prelude.{Option, None, Some, option_map}
 use mathlib.Core.List.{List}
 use Prim.Native.Nat.{ℕ, ◌+◌, ◌-◌, ◌*◌, ◌%◌, ◌≤◌, ◌<◌}
 use native.Mathlib.Decide.{dec_le}
@@ -11,8 +11,6 @@ use lib.Dec.{T, leb}
 use lib.ListN.{length, take, drop, length-drop}
 use lib.Seq.{take_at, take-take, length-take-le}
 use Rattle.words.proofs.Slices.{Bytes, bytes_drop, bytes_take}
-use Rattle.journal_entry.specs.declared.Walk.{Walk}
-use Rattle.journal_entry.specs.declared.Walk.TheVariants.{End, Unreadable as NoEnd}
 use Rattle.journal_entry.specs.Entry.{JournalEntry, value_limit, sum_journal_entries, wires}
 use Rattle.journal_entry.specs.Parse.{◌>>=◌, provided, read_entries, parse_entries_at}
 use Rattle.journal_entry.specs.Places.{word_at, part, place_behind, entries_end}
@@ -21,8 +19,6 @@ use Rattle.journal_entry.proofs.Sound.{AllStand, read_entries_sound}
 use Rattle.journal_entry.proofs.Walked.{walked}
 use Rattle.journal_entry.proofs.Walks.{walk_within}
 use Rattle.journal_range.specs.declared.BatchPlace.{BatchPlace}
-use Rattle.journal_range.specs.declared.BatchRead.{BatchRead}
-use Rattle.journal_range.specs.declared.BatchRead.TheVariants.{Read, Unreadable}
 use Rattle.journal_range.specs.Range.{parse_journal_range_of_bytes_at}
 use Rattle.journal_range.specs.Payload.{front_batch, batch_answer}
 use Rattle.words.proofs.Slices.{drop_take}
@@ -44,16 +40,16 @@ abbrev pub listed : List ℕ → Option (List JournalEntry × List ℕ)
 listed s = read_entries (word_at s 0) (part s 8 (long s))
 
 abbrev with_long : ℕ → Option (List JournalEntry × List ℕ) → Option (List JournalEntry × ℕ)
-with_long n none = none
-with_long n (some (es, rest)) = some (es, n)
+with_long n None = None
+with_long n (Some (es, rest)) = Some (es, n)
 
 with_long_bind : (n : ℕ) (o : Option (List JournalEntry × List ℕ)) → (do
   es ← (do
     (es, rest) ← o
-    some es)
-  some (es, n)) ≡ with_long n o
-with_long_bind n none = refl
-with_long_bind n (some r) = refl
+    Some es)
+  Some (es, n)) ≡ with_long n o
+with_long_bind n None = refl
+with_long_bind n (Some r) = refl
 
 pub batch_yes : (s : List ℕ) → Headed s → front_batch s ≡ with_long (long s) (listed s)
 unfolding front_batch parse_journal_range_of_bytes_at parse_entries_at
@@ -75,15 +71,15 @@ headed? s = go (dec_le 8 (length s)) (dec_le 1 (word_at s 4)) (dec_le (long s) (
     go (yes a) (no b) c = no (λ h. b h.blocks)
     go (no a) b c = no (λ h. a h.header)
 
-pub batch_no : (s : List ℕ) → (Headed s → ⊥) → front_batch s ≡ none
+pub batch_no : (s : List ℕ) → (Headed s → ⊥) → front_batch s ≡ None
 unfolding front_batch
 batch_no s h = go (dec_le 8 (length s))
   where
-    tested : (t : Bool) (o : Option (List JournalEntry × ℕ)) → (T t → ⊥) → provided t o ≡ none
+    tested : (t : Bool) (o : Option (List JournalEntry × ℕ)) → (T t → ⊥) → provided t o ≡ None
     tested true o f = absurd (f tt)
     tested false o f = refl
 
-    go : Dec (8 ≤ length s) → front_batch s ≡ none
+    go : Dec (8 ≤ length s) → front_batch s ≡ None
     go (no n) = let m : length s < 8 = omega arith in rw (header_no s m)
     go (yes m) =
         rw (header_yes s m)
@@ -91,7 +87,7 @@ batch_no s h = go (dec_le 8 (length s))
         let (b, r) = both 1 (word_at s 4) (long s) (length s) t in
         h (record { header = m; blocks = b; room = r }))
 
-pub answer_none : (s : List ℕ) → (Headed s → ⊥) → Unreadable ≡ batch_answer (front_batch s)
+pub answer_none : (s : List ℕ) → (Headed s → ⊥) → None ≡ batch_answer (front_batch s)
 answer_none s h = sym (ap batch_answer (batch_no s h))
 
 -- A batch that reads.
@@ -100,26 +96,26 @@ pub record BatchTold (s : List ℕ) (es : List JournalEntry) (next : ℕ) : Type
   pub headed : Headed s
   pub whole : next ≡ long s
   pub rest : List ℕ
-  pub read : listed s ≡ some (es, rest)
+  pub read : listed s ≡ Some (es, rest)
 
-pub batch_told : (s : List ℕ) (es : List JournalEntry) (next : ℕ) → front_batch s ≡ some (es, next)
+pub batch_told : (s : List ℕ) (es : List JournalEntry) (next : ℕ) → front_batch s ≡ Some (es, next)
     → BatchTold s es next
 batch_told s es next e = go (headed? s)
   where
-    impossible : ◌≡◌ {A = Option (List JournalEntry × ℕ)} none (some (es, next)) → BatchTold s es next
+    impossible : ◌≡◌ {A = Option (List JournalEntry × ℕ)} None (Some (es, next)) → BatchTold s es next
     impossible z = let y : ◌≡◌ {A = ℕ} 0 1 = cc in absurd (omega arith)
 
     read : Headed s → (o : Option (List JournalEntry × List ℕ)) → listed s ≡ o
-        → with_long (long s) o ≡ some (es, next) → BatchTold s es next
-    read h none q f = impossible f
-    read h (some (fs, rest)) q f =
+        → with_long (long s) o ≡ Some (es, next) → BatchTold s es next
+    read h None q f = impossible f
+    read h (Some (fs, rest)) q f =
         let g : ◌≡◌ {A = List JournalEntry × ℕ} (fs, long s) (es, next) = cc in
         let g₁ : fs ≡ es = ap (λ (x : List JournalEntry × ℕ). x.0) g in
         record {
           headed = h;
           whole = sym (ap (λ (x : List JournalEntry × ℕ). x.1) g);
           rest = rest;
-          read = q ∙ ap (λ (l : List JournalEntry). some (l, rest)) g₁;
+          read = q ∙ ap (λ (l : List JournalEntry). Some (l, rest)) g₁;
         }
 
     go : Dec (Headed s) → BatchTold s es next
@@ -137,7 +133,7 @@ pub record BatchBounds (s : List ℕ) (es : List JournalEntry) (next : ℕ) : Ty
 length_listed : (s : List ℕ) → Headed s → length (part s 8 (long s)) ≡ long s - 8
 length_listed s h = length-take-le (long s - 8) (drop 8 s) (rw length-drop (omega (arith, h.room)))
 
-pub batch_bounds : (s : List ℕ) (es : List JournalEntry) (next : ℕ) → front_batch s ≡ some (es, next)
+pub batch_bounds : (s : List ℕ) (es : List JournalEntry) (next : ℕ) → front_batch s ≡ Some (es, next)
     → BatchBounds s es next
 batch_bounds s es next e =
     let d = batch_told s es next e in
@@ -153,7 +149,7 @@ batch_bounds s es next e =
     }
 
 -- SOUND: the wire forms of the entries are the bytes read
-pub batch_wires : (s : List ℕ) (es : List JournalEntry) (next : ℕ) → Bytes s → front_batch s ≡ some (es, next)
+pub batch_wires : (s : List ℕ) (es : List JournalEntry) (next : ℕ) → Bytes s → front_batch s ≡ Some (es, next)
     → wires es ≡ take (sum_journal_entries es) (drop 8 s)
 batch_wires s es next bytes e =
     let d = batch_told s es next e in
@@ -167,9 +163,8 @@ batch_wires s es next bytes e =
 
 -- The answer, from the place behind the last entry.
 
-abbrev pub walk_answer : (count next : ℕ) → Walk → BatchRead
-walk_answer count next (End here) = Read (record { entries = count; bytes = here - 8; next = next })
-walk_answer count next NoEnd = Unreadable
+abbrev pub walk_answer : (count next : ℕ) → Option ℕ → Option BatchPlace
+walk_answer count next walk = option_map (λ here. record { entries = count; bytes = here - 8; next = next }) walk
 
 pub batch_walked : (s : List ℕ) → Headed s
     → batch_answer (front_batch s) ≡ walk_answer (word_at s 0) (long s) (entries_end s 8 (long s) (word_at s 0))
@@ -178,45 +173,70 @@ batch_walked s h =
   where
     go : (o : Option (List JournalEntry × List ℕ)) → listed s ≡ o
         → batch_answer (with_long (long s) o) ≡ walk_answer (word_at s 0) (long s) (place_behind (long s) o)
-    go none e = refl
-    go (some (es, rest)) e =
+    go None e = refl
+    go (Some (es, rest)) e =
         let k : AllStand value_limit (word_at s 0) (part s 8 (long s)) (es, rest) =
         read_entries_sound value_limit _ _ _ e in
         let l = length_listed s h in
         let many : length es ≡ word_at s 0 = k.count in
         let bytes : sum_journal_entries es ≡ long s - length rest - 8 = omega (arith, k.weighs, h.blocks) in
-        ap Read (λ i. record { entries = many i; bytes = bytes i; next = long s })
+        ap Some (λ i. record { entries = many i; bytes = bytes i; next = long s })
 
--- a walk from behind the header ends behind it
-pub walk_behind : (s : List ℕ) (end count next : ℕ) → entries_end s 8 end count ≡ End next → 8 ≤ next
-walk_behind s end count next e = walked s 8 end count next e λ es rest w. omega (arith, w.next_is)
+-- The same with the words as they were read.
+module _ (s : List ℕ) (count blocks : ℕ) (e₁ : count ≡ word_at s 0) (e₂ : blocks ≡ word_at s 4) where
+  pub batch_empty : blocks < 1 → None ≡ batch_answer (front_batch s)
+  batch_empty few = answer_none s (λ h. omega (arith, h.blocks))
+
+  pub batch_short : (len : ℕ) → len ≡ length s → len < 4064 * blocks → None ≡ batch_answer (front_batch s)
+  batch_short len e few = answer_none s (λ h. omega (arith, h.room))
+
+  module _ (some : 1 ≤ blocks) (len : ℕ) (e : len ≡ length s) (room : 4064 * blocks ≤ len) (walk : Option ℕ)
+      (is : walk ≡ entries_end s 8 (4064 * blocks) count) where
+    batch_is : walk_answer count (4064 * blocks) walk ≡ batch_answer (front_batch s)
+    batch_is =
+        let h : Headed s = record { header = omega arith; blocks = omega arith; room = omega arith } in
+        rw (is, e₁, e₂) (sym (batch_walked s h))
+
+    pub batch_unread : walk ≡ None → None ≡ batch_answer (front_batch s)
+    batch_unread w = ap (walk_answer count (4064 * blocks)) (sym w) ∙ batch_is
+
+    pub batch_read : (here : ℕ) → walk ≡ Some here
+        → Some (record { entries = count; bytes = here - 8; next = 4064 * blocks }) ≡ batch_answer (front_batch s)
+    batch_read here w = ap (walk_answer count (4064 * blocks)) (sym w) ∙ batch_is
+
+    -- a walk from behind the header ends behind it
+    pub walk_behind : (here : ℕ) → walk ≡ Some here → 8 ≤ here
+    walk_behind here w = walked s 8 (4064 * blocks) count here (sym is ∙ w) λ es rest w. omega (arith, w.next_is)
 
 -- From an answer back to the batch.
 
 -- the entries that were read
 pub record Found (s : List ℕ) (p : BatchPlace) : Type 0 where
   pub list : List JournalEntry
-  pub front : front_batch s ≡ some (list, p.next)
+  pub front : front_batch s ≡ Some (list, p.next)
   pub many : p.entries ≡ length list
   pub size : p.bytes ≡ sum_journal_entries list
 
-pub found : (s : List ℕ) (p : BatchPlace) → batch_answer (front_batch s) ≡ Read p → Found s p
+pub found : (s : List ℕ) (p : BatchPlace) → batch_answer (front_batch s) ≡ Some p → Found s p
 found s p e = go (front_batch s) refl e
   where
-    go : (o : Option (List JournalEntry × ℕ)) → front_batch s ≡ o → batch_answer o ≡ Read p → Found s p
-    go none q x = let y : ◌≡◌ {A = ℕ} 0 1 = cc in absurd (omega arith)
-    go (some (es, long)) q x =
+    go : (o : Option (List JournalEntry × ℕ)) → front_batch s ≡ o → batch_answer o ≡ Some p → Found s p
+    go None q x = let y : ◌≡◌ {A = ℕ} 0 1 = cc in absurd (omega arith)
+    go (Some (es, long)) q x =
         let g : record { entries = length es; bytes = sum_journal_entries es; next = long } ≡ p = cc in
         record {
           list = es;
-          front = q ∙ ap (λ (b : BatchPlace). some (es, b.next)) g;
+          front = q ∙ ap (λ (b : BatchPlace). Some (es, b.next)) g;
           many = sym (ap (λ (b : BatchPlace). b.entries) g);
           size = sym (ap (λ (b : BatchPlace). b.bytes) g);
         }
 
-pub not_found : (s : List ℕ) → batch_answer (front_batch s) ≡ Unreadable → front_batch s ≡ none
+pub not_found : (s : List ℕ) → batch_answer (front_batch s) ≡ None → front_batch s ≡ None
 not_found s e = go (front_batch s) e
   where
-    go : (o : Option (List JournalEntry × ℕ)) → batch_answer o ≡ Unreadable → o ≡ none
-    go none x = refl
-    go (some r) x = let y : ◌≡◌ {A = ℕ} 0 1 = cc in absurd (omega arith)
+    go : (o : Option (List JournalEntry × ℕ)) → batch_answer o ≡ None → o ≡ None
+    go None x = refl
+    go (Some r) x = let y : ◌≡◌ {A = ℕ} 0 1 = cc in absurd (omega arith)
+
+-- what the reader of a batch is proved by
+pub ruleset reading = (batch_empty, batch_short, batch_unread, batch_read, walk_behind)

@@ -2,7 +2,7 @@
 -- first's list. Assumes nothing.
 use mathlib.Core.Path.{◌≡◌, sym, ap, ◌∙◌}
 use mathlib.Core.Bool.{◌&&◌}
-use mathlib.Core.Option.{some}
+use Rattle.std.specs.Prelude.{Some}
 use mathlib.Core.List.{List, [], ◌∷◌, ◌++◌, append_assoc}
 use Prim.Native.Nat.{ℕ, zero, suc, ◌+◌, ◌-◌, ◌/◌, ◌%◌, ◌≤◌}
 use native.Mathlib.Nat.{not-suc-le-zero, le_of_suc-le-suc}
@@ -22,8 +22,8 @@ use Rattle.journal_range.proofs.Same.{both}
 use Rattle.journal_range.proofs.Payload.{chunks_append}
 
 behind_from : {C : Type 0} (k : ℕ) (a b : JournalRange) (es fs : List JournalEntry) → k ≤ length a
-    → parse_from k a ≡ some es → parse_from k (a ++ b) ≡ some fs
-    → ((gs : List JournalEntry) → parse_from 0 b ≡ some gs → es ++ gs ≡ fs → C) → C
+    → parse_from k a ≡ Some es → parse_from k (a ++ b) ≡ Some fs
+    → ((gs : List JournalEntry) → parse_from 0 b ≡ Some gs → es ++ gs ≡ fs → C) → C
 unfolding parse_from_at
 behind_from zero [] b es fs h p q next = let e : [] ≡ es = cc in
     next fs q (ap (λ (l : List JournalEntry). l ++ fs) (sym e))
@@ -37,7 +37,7 @@ behind_from zero (x ∷ a) b es fs h p q next =
     let (h₁, h₂) = both 1 hdr.1 hdr.1 (length (x ∷ a)) fits in
     let h₃ : hdr.1 ≤ length (x ∷ (a ++ b)) = rw length-append (omega arith) in
     let e₃ : es₁ ++ es₂ ≡ es = cc in
-    bind_parts (parse_from (hdr.1 - 1) (a ++ b)) (λ (l : List JournalEntry). some (es₁ ++ l)) fs
+    bind_parts (parse_from (hdr.1 - 1) (a ++ b)) (λ (l : List JournalEntry). Some (es₁ ++ l)) fs
     (rw (e₀, le-leb _ _ h₁, le-leb _ _ h₃, take-append-le hdr.1 (x ∷ a) b h₂, e₁) at q) λ fs₂ e₄ q₁.
     behind_from (hdr.1 - 1) a b es₂ fs₂ (omega arith) e₂ e₄ λ gs e₅ e₆.
     let e₇ : es₁ ++ fs₂ ≡ fs = cc in
@@ -46,8 +46,8 @@ behind_from zero (x ∷ a) b es fs h p q next =
 
 -- of bytes
 pub reads_behind : {C : Type 0} (p q : List ℕ) (es fs : List JournalEntry) → length p % 4064 ≡ 0 → length q % 4064 ≡ 0
-    → parse_payload p ≡ some es → parse_payload (p ++ q) ≡ some fs
-    → ((gs : List JournalEntry) → parse_payload q ≡ some gs → es ++ gs ≡ fs → C) → C
+    → parse_payload p ≡ Some es → parse_payload (p ++ q) ≡ Some fs
+    → ((gs : List JournalEntry) → parse_payload q ≡ Some gs → es ++ gs ≡ fs → C) → C
 unfolding parse_payload parse_journal_range_at
 reads_behind p q es fs hp hq ep eq next =
     let n : ℕ = length p / 4064 in

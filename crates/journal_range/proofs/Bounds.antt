@@ -2,7 +2,7 @@
 -- bite in a load. Assumes nothing.
 use mathlib.Core.Path.{◌≡◌, refl, sym, ap, ◌∙◌, subst}
 use mathlib.Core.Bool.{◌&&◌}
-use mathlib.Core.Option.{some}
+use Rattle.std.specs.Prelude.{Some}
 use mathlib.Core.List.{List, [], ◌∷◌, ◌++◌, append_assoc}
 use Prim.Native.Nat.{ℕ, zero, suc, ◌+◌, ◌-◌, ◌*◌, ◌/◌, ◌≤◌}
 use native.Mathlib.Omega.{arith}
@@ -22,7 +22,7 @@ use Rattle.journal_range.proofs.Same.{both}
 use Rattle.journal_range.proofs.Joining.{drop_behind}
 use Rattle.journal_range.proofs.Payload.{concat_chunks}
 
-entries_weigh : (n : ℕ) (s : List ℕ) (es : List JournalEntry) → parse_entries n s ≡ some es
+entries_weigh : (n : ℕ) (s : List ℕ) (es : List JournalEntry) → parse_entries n s ≡ Some es
     → sum_journal_entries es ≤ length s
 unfolding parse_entries_at
 entries_weigh n s es e =
@@ -38,7 +38,7 @@ concat_split (suc k) [] = refl
 concat_split (suc k) (b ∷ bs) =
     append_assoc b (concat_seq (take k bs)) (concat_seq (drop k bs)) ∙ ap (λ (l : List ℕ). b ++ l) (concat_split k bs)
 
-weigh_from : (k : ℕ) (jr : JournalRange) (es : List JournalEntry) → parse_from k jr ≡ some es
+weigh_from : (k : ℕ) (jr : JournalRange) (es : List JournalEntry) → parse_from k jr ≡ Some es
     → sum_journal_entries es ≤ length (concat_seq (drop k jr))
 unfolding parse_from_at parse_journal_range_of_bytes_at
 weigh_from zero [] es e = let ee : [] ≡ es = cc in
@@ -66,12 +66,12 @@ weigh_from zero (b ∷ bs) es e =
     subst (λ (l : List JournalEntry). sum_journal_entries l ≤ length (concat_seq (b ∷ bs))) ee
     (rw sum_append (omega arith))
 
-pub range_weighs : (jr : JournalRange) (es : List JournalEntry) → parse_journal_range jr ≡ some es
+pub range_weighs : (jr : JournalRange) (es : List JournalEntry) → parse_journal_range jr ≡ Some es
     → sum_journal_entries es ≤ length (concat_seq jr)
 unfolding parse_journal_range_at
 range_weighs jr es e = weigh_from 0 jr es e
 
-pub payload_weighs : (s : List ℕ) (es : List JournalEntry) → parse_payload s ≡ some es
+pub payload_weighs : (s : List ℕ) (es : List JournalEntry) → parse_payload s ≡ Some es
     → sum_journal_entries es ≤ length s
 unfolding parse_payload
 payload_weighs s es e =
@@ -81,6 +81,6 @@ payload_weighs s es e =
     omega arith
 
 -- front and back of at most 1,024 blocks each: at most 1,040,384 entries
-pub entries_few : (s : List ℕ) (es : List JournalEntry) → length s ≤ 2 * 1024 * 4064 → parse_payload s ≡ some es
+pub entries_few : (s : List ℕ) (es : List JournalEntry) → length s ≤ 2 * 1024 * 4064 → parse_payload s ≡ Some es
     → length es ≤ 1040384
 entries_few s es h e = omega (arith, payload_weighs s es e, eight_each es)

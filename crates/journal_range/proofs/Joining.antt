@@ -3,7 +3,7 @@
 -- Assumes nothing.
 use mathlib.Core.Path.{◌≡◌, refl, sym, ap, ◌∙◌}
 use mathlib.Core.Bool.{◌&&◌}
-use mathlib.Core.Option.{some}
+use Rattle.std.specs.Prelude.{Some}
 use mathlib.Core.List.{List, [], ◌∷◌, ◌++◌, append_assoc}
 use Prim.Native.Nat.{ℕ, zero, suc, ◌-◌, ◌≤◌}
 use native.Mathlib.Nat.{not-suc-le-zero, le_of_suc-le-suc}
@@ -28,7 +28,7 @@ parse_from_drop (suc k) [] = refl
 parse_from_drop (suc k) (b ∷ bs) = parse_from_drop k bs
 
 -- no blocks read as no entries
-pub parse_journal_range_nil : parse_journal_range [] ≡ some []
+pub parse_journal_range_nil : parse_journal_range [] ≡ Some []
 unfolding parse_journal_range_at
 parse_journal_range_nil = refl
 
@@ -42,7 +42,7 @@ pub parse_journal_range_cons : (b : JournalBlock) (bs : JournalRange) → parse_
   provided (leb 1 nblocks && leb nblocks (length (b ∷ bs))) do
     es₁ ← parse_journal_range_of_bytes (concat_seq (take nblocks (b ∷ bs))) nentries
     es₂ ← parse_journal_range (drop nblocks (b ∷ bs))
-    some (es₁ ++ es₂))
+    Some (es₁ ++ es₂))
 unfolding parse_from_at
 parse_journal_range_cons b bs =
     sym (parse_from_drop 0 (b ∷ bs))
@@ -52,9 +52,9 @@ parse_journal_range_cons b bs =
 
 -- joining, where the first k blocks of the first range are read already
 joining_from : (k : ℕ) (a b : JournalRange) (es fs : List JournalEntry) → k ≤ length a
-    → parse_from k a ≡ some es → parse_from 0 b ≡ some fs → parse_from k (a ++ b) ≡ some (es ++ fs)
+    → parse_from k a ≡ Some es → parse_from 0 b ≡ Some fs → parse_from k (a ++ b) ≡ Some (es ++ fs)
 unfolding parse_from_at
-joining_from zero [] b es fs h p q = q ∙ ap some (ap (λ (l : List JournalEntry). l ++ fs) (let e : [] ≡ es = cc in e))
+joining_from zero [] b es fs h p q = q ∙ ap Some (ap (λ (l : List JournalEntry). l ++ fs) (let e : [] ≡ es = cc in e))
 joining_from (suc k) [] b es fs h p q = absurd (not-suc-le-zero h)
 joining_from (suc k) (x ∷ a) b es fs h p q = joining_from k a b es fs (le_of_suc-le-suc h) p q
 joining_from zero (x ∷ a) b es fs h p q =
@@ -64,15 +64,15 @@ joining_from zero (x ∷ a) b es fs h p q =
     bind_parts (parse_from (hdr.1 - 1) a) _ es p₂ λ es₂ e₂ p₃.
     let (h₁, h₂) = both 1 hdr.1 hdr.1 (length (x ∷ a)) fits in
     let h₃ : hdr.1 ≤ length (x ∷ (a ++ b)) = rw length-append (omega arith) in
-    let r : parse_from (hdr.1 - 1) (a ++ b) ≡ some (es₂ ++ fs) =
+    let r : parse_from (hdr.1 - 1) (a ++ b) ≡ Some (es₂ ++ fs) =
     joining_from (hdr.1 - 1) a b es₂ fs (omega arith) e₂ q in
     let e₃ : es₁ ++ es₂ ≡ es = cc in
     rw (e₀, le-leb _ _ h₁, le-leb _ _ h₃, take-append-le hdr.1 (x ∷ a) b h₂, e₁, r)
     (rw (← append_assoc es₁ es₂ fs, e₃))
 
 -- JOINING, of `parse_journal_range` itself; either range may be empty
-pub joining : (a b : JournalRange) (es fs : List JournalEntry) → parse_journal_range a ≡ some es
-    → parse_journal_range b ≡ some fs
-    → parse_journal_range (a ++ b) ≡ some (es ++ fs)
+pub joining : (a b : JournalRange) (es fs : List JournalEntry) → parse_journal_range a ≡ Some es
+    → parse_journal_range b ≡ Some fs
+    → parse_journal_range (a ++ b) ≡ Some (es ++ fs)
 unfolding parse_journal_range_at
 joining a b es fs p q = joining_from 0 a b es fs (omega arith) p q

@@ -3,7 +3,7 @@
 -- Assumes nothing.
 use mathlib.Core.Path.{◌≡◌, refl, sym, subst}
 use mathlib.Core.Bool.{true, ◌&&◌}
-use mathlib.Core.Option.{Option, none, some}
+use Rattle.std.specs.Prelude.{Option, None, Some}
 use mathlib.Core.List.{List, [], ◌∷◌, ◌++◌}
 use Prim.Native.Nat.{ℕ, zero, suc, ◌-◌, ◌/◌, ◌%◌, ◌≤◌}
 use native.Mathlib.Omega.{arith}
@@ -20,7 +20,7 @@ use Rattle.journal_range.specs.Range.{JournalRange, parse_header, parse_journal_
 use Rattle.journal_range.specs.Range.{parse_journal_range_at, parse_journal_range}
 use Rattle.journal_range.specs.Payload.{parse_payload, range_of}
 
-within_from : (limit k : ℕ) (jr : JournalRange) (es : List JournalEntry) → parse_from_at limit k jr ≡ some es
+within_from : (limit k : ℕ) (jr : JournalRange) (es : List JournalEntry) → parse_from_at limit k jr ≡ Some es
     → AllWithinAt limit es
 unfolding parse_from_at parse_journal_range_of_bytes_at
 within_from limit zero [] es e = let ee : [] ≡ es = cc in subst (AllWithinAt limit) ee tt
@@ -35,12 +35,12 @@ within_from limit zero (b ∷ bs) es e =
     subst (AllWithinAt limit) ee
     (within_append limit es₁ es₂ (entries_within limit hdr.0 _ es₁ e₁) (within_from limit (hdr.1 - 1) bs es₂ e₂))
 
-range_within : (limit : ℕ) (jr : JournalRange) (es : List JournalEntry) → parse_journal_range_at limit jr ≡ some es
+range_within : (limit : ℕ) (jr : JournalRange) (es : List JournalEntry) → parse_journal_range_at limit jr ≡ Some es
     → AllWithinAt limit es
 unfolding parse_journal_range_at
 range_within limit jr es e = within_from limit 0 jr es e
 
-pub range_of_limits : (s : List ℕ) (es : List JournalEntry) → range_of s ≡ some es → AllWithin es
+pub range_of_limits : (s : List ℕ) (es : List JournalEntry) → range_of s ≡ Some es → AllWithin es
 unfolding range_of parse_payload
 range_of_limits s es e =
     provided_parts (eqb (length s % 4064) 0) (parse_payload s) es e λ whole p. range_within value_limit
@@ -48,9 +48,9 @@ range_of_limits s es e =
 
 -- TWO LIMITS
 
-again_from : (a b k : ℕ) (jr : JournalRange) (es : List JournalEntry) → parse_from_at a k jr ≡ some es
+again_from : (a b k : ℕ) (jr : JournalRange) (es : List JournalEntry) → parse_from_at a k jr ≡ Some es
     → AllWithinAt b es
-    → parse_from_at b k jr ≡ some es
+    → parse_from_at b k jr ≡ Some es
 unfolding parse_from_at parse_journal_range_of_bytes_at
 again_from a b zero [] es e w = e
 again_from a b (suc k) [] es e w = e
@@ -65,47 +65,47 @@ again_from a b zero (x ∷ bs) es e w =
     let ok : (leb 1 hdr.1 && leb hdr.1 (length (x ∷ bs))) ≡ true = T→true fits in
     rw (e₀, ok, entries_again a b hdr.0 _ es₁ e₁ v, again_from a b (hdr.1 - 1) bs es₂ e₂ u) p₃
 
-range_again : (a b : ℕ) (jr : JournalRange) (es : List JournalEntry) → parse_journal_range_at a jr ≡ some es
-    → AllWithinAt b es → parse_journal_range_at b jr ≡ some es
+range_again : (a b : ℕ) (jr : JournalRange) (es : List JournalEntry) → parse_journal_range_at a jr ≡ Some es
+    → AllWithinAt b es → parse_journal_range_at b jr ≡ Some es
 unfolding parse_journal_range_at
 range_again a b jr es e w = again_from a b 0 jr es e w
 
 -- whatever reads at a limit reads as the same list at any larger one
 pub larger_reads : (a b : ℕ) → a ≤ b → (jr : JournalRange) (es : List JournalEntry)
-    → parse_journal_range_at a jr ≡ some es
-    → parse_journal_range_at b jr ≡ some es
+    → parse_journal_range_at a jr ≡ Some es
+    → parse_journal_range_at b jr ≡ Some es
 larger_reads a b h jr es e = range_again a b jr es e (all_larger a b h es (range_within a jr es e))
 
 -- and at any smaller one that no value is longer than
-pub smaller_reads : (a b : ℕ) (jr : JournalRange) (es : List JournalEntry) → parse_journal_range_at b jr ≡ some es
-    → (HasLonger a es → ⊥) → parse_journal_range_at a jr ≡ some es
+pub smaller_reads : (a b : ℕ) (jr : JournalRange) (es : List JournalEntry) → parse_journal_range_at b jr ≡ Some es
+    → (HasLonger a es → ⊥) → parse_journal_range_at a jr ≡ Some es
 smaller_reads a b jr es e short = range_again b a jr es e (none_longer a b es (range_within b jr es e) short)
 
 -- what reads at two limits reads as one list
-pub read_alike : (a b : ℕ) (jr : JournalRange) (es fs : List JournalEntry) → parse_journal_range_at a jr ≡ some es
-    → parse_journal_range_at b jr ≡ some fs → es ≡ fs
+pub read_alike : (a b : ℕ) (jr : JournalRange) (es fs : List JournalEntry) → parse_journal_range_at a jr ≡ Some es
+    → parse_journal_range_at b jr ≡ Some fs → es ≡ fs
 read_alike a b jr es fs p q =
     by_order a b
     (λ h. let r = larger_reads a b h jr es p in cc)
     (λ h. let r = larger_reads b a (omega arith) jr fs q in cc)
 
 -- so a longer value is refused, never read as a shorter one
-pub longer_refused : (a b : ℕ) (jr : JournalRange) (es : List JournalEntry) → parse_journal_range_at b jr ≡ some es
-    → HasLonger a es → parse_journal_range_at a jr ≡ none
+pub longer_refused : (a b : ℕ) (jr : JournalRange) (es : List JournalEntry) → parse_journal_range_at b jr ≡ Some es
+    → HasLonger a es → parse_journal_range_at a jr ≡ None
 longer_refused a b jr es e l = go (parse_journal_range_at a jr) refl
   where
-    go : (o : Option (List JournalEntry)) → parse_journal_range_at a jr ≡ o → o ≡ none
-    go none q = refl
-    go (some fs) q =
+    go : (o : Option (List JournalEntry)) → parse_journal_range_at a jr ≡ o → o ≡ None
+    go None q = refl
+    go (Some fs) q =
         let same : fs ≡ es = read_alike a b jr fs es q e in
         absurd (longer_out a es l (subst (AllWithinAt a) same (range_within a jr fs q)))
 
 -- IMAGES IN STORE, written at 1,024, read as before
-pub stored_read : (jr : JournalRange) (es : List JournalEntry) → parse_journal_range_at 1024 jr ≡ some es
-    → parse_journal_range jr ≡ some es
+pub stored_read : (jr : JournalRange) (es : List JournalEntry) → parse_journal_range_at 1024 jr ≡ Some es
+    → parse_journal_range jr ≡ Some es
 stored_read jr es e = larger_reads 1024 value_limit (omega arith) jr es e
 
 -- A READER STILL AT 1,024 does not read a longer value
-pub old_reader : (jr : JournalRange) (es : List JournalEntry) → parse_journal_range jr ≡ some es → HasLonger 1024 es
-    → parse_journal_range_at 1024 jr ≡ none
+pub old_reader : (jr : JournalRange) (es : List JournalEntry) → parse_journal_range jr ≡ Some es → HasLonger 1024 es
+    → parse_journal_range_at 1024 jr ≡ None
 old_reader jr es e l = longer_refused 1024 value_limit jr es e l

@@ -3,41 +3,32 @@
 
 ghost use Rattle.std.specs.Prelude.{◌≡◌, ◌+◌, ◌<◌, ◌≤◌, length};
 ghost use Rattle.words.specs.Words.{word};
-ghost use Rattle.journal_entry.specs.Entry.{clone_mark, second_limit, entry_of, wire};
+ghost use Rattle.journal_entry.specs.Entry.{entry_of, wire};
 ghost use Rattle.journal_entry.specs.Places.{is_clone_kind};
 ghost use Rattle.journal_ring.specs.Ring.{advance, overwritten};
 ghost use Rattle.journal_ring.specs.Put.{put_entry};
 
 use journal_entry::Kind;
 
-#[derive(Clone, Copy)]
-pub enum Put {
-    Done,
-    NotTaken,
-}
+// Something that was to be written is not written: it is not all there, is past a limit, or has no room.
+#[derive(Clone, Copy, Debug, PartialEq, Eq)]
+pub struct NotTaken;
 
-// The place n bytes on. (Neither sum nor difference wraps, whatever the size.)
-fn place(size: usize, at: usize, n: usize) -> usize
-    requires { (at < size) × (n ≤ size) }
-    ensures value { result ≡ advance size at n }
-    ensures upper_bound { result < size }
+// The place n bytes on, of a place in the ring. (Neither sum nor difference wraps, whatever the size.)
+#[tactic(auto, using(crate::proofs::Rotation::advance_near, crate::proofs::Rotation::advance_far))]
+pub fn advance(size: usize, at: usize, n: usize) -> usize
+    ensures value { at ≤ size → result ≡ advance size at n }
+    ensures upper_bound { at < size → n ≤ size → result < size }
 {
-    let up_to_end = size - at;
+    let up_to_end = size.saturating_sub(at);
     if n < up_to_end {
         return at + n;
     }
     n - up_to_end
 }
 
-// Copies src over the whole of dst.
-fn copy_whole(src: &[u8], dst: &mut [u8])
-    requires { length dst.old ≡ length src.now }
-    ensures { dst.new ≡ src.now }
-{
-    dst.copy_from_slice(src);
-}
-
-// Writes src into the ring from `at` on, in one run or two, and returns the place behind it.
+// Writes src into the ring from `at` on, in one run or two, and returns the place behind it. (The ring and the place
+// are handed on apart: of a slice that is lent in a struct, a caller's proof gets only the length back.)
 fn put_bytes(ring: &mut [u8], at: usize, src: &[u8]) -> usize
     requires { (at < length ring.old) × (length src.now ≤ length ring.old) }
     ensures value { result ≡ advance (length ring.old) at (length src.now) }
@@ -48,51 +39,24 @@ fn put_bytes(ring: &mut [u8], at: usize, src: &[u8]) -> usize
     let room = ring.len() - at;
     if n < room {
         let end = at + n;
-        copy_whole(src, &mut ring[at..end]);
+        ring[at..end].copy_from_slice(src);
         return end;
     }
-    copy_whole(&src[0..room], &mut ring[at..]);
+    ring[at..].copy_from_slice(&src[0..room]);
     let rest = n - room;
-    copy_whole(&src[room..], &mut ring[0..rest]);
+    ring[0..rest].copy_from_slice(&src[room..]);
     rest
 }
 
 // The same of a 32-bit word, lowest byte first.
+#[tactic(auto, using(words::proofs::Words::length_word))]
 fn put_word(ring: &mut [u8], at: usize, n: u32) -> usize
     requires { (at < length ring.old) × (4 ≤ length ring.old) }
     ensures value { result ≡ advance (length ring.old) at 4 }
     ensures ring_new { ring.new ≡ overwritten ring.old at (word n) }
     ensures upper_bound { result < length ring.old }
 {
-    let four = [
-        (n % 256) as u8,
-        (n / 256 % 256) as u8,
-        (n / 256 / 256 % 256) as u8,
-        (n / 256 / 256 / 256 % 256) as u8,
-    ];
-    put_bytes(ring, at, &four)
-}
-
-// What the kind adds to the first length word.
-fn mark_of(kind: Kind) -> u32
-    ensures value { result ≡ clone_mark (is_clone_kind kind) }
-    ensures upper_bound { result ≤ 4096 }
-{
-    match kind {
-        Kind::Insert => 0,
-        Kind::Clone => journal_entry::CLONE_MARK,
-    }
-}
-
-// The most second bytes of the kind.
-pub fn second_limit(kind: Kind) -> usize
-    ensures value { result ≡ second_limit (is_clone_kind kind) }
-    ensures upper_bound { result ≤ 16384 }
-{
-    match kind {
-        Kind::Insert => journal_entry::VALUE_LIMIT,
-        Kind::Clone => journal_entry::TO_LIMIT,
-    }
+    put_bytes(ring, at, &words::bytes_of(n))
 }
 
 // Writes an entry's wire form into the ring from `at` on: four pieces, one straight behind the other.
@@ -103,7 +67,7 @@ fn put_form(ring: &mut [u8], at: usize, kind: Kind, first: &[u8], second: &[u8])
         ≡ overwritten ring.old at
         (wire (entry_of (is_clone_kind kind) first.now second.now)) }
 {
-    let first_at = put_word(ring, at, first.len() as u32 + mark_of(kind));
+    let first_at = put_word(ring, at, first.len() as u32 + kind.mark());
     let second_word_at = put_bytes(ring, first_at, first);
     let second_at = put_word(ring, second_word_at, second.len() as u32);
     put_bytes(ring, second_at, second);
@@ -111,6 +75,7 @@ fn put_form(ring: &mut [u8], at: usize, kind: Kind, first: &[u8], second: &[u8])
 
 // Writes an entry's wire form behind the bytes pending from `start` on, if there is room. Nothing else of the ring
 // is changed.
+#[tactic(auto, using(crate::proofs::Taken::put_not))]
 pub fn put_entry(
     ring: &mut [u8],
     start: usize,
@@ -118,27 +83,27 @@ pub fn put_entry(
     kind: Kind,
     first: &[u8],
     second: &[u8],
-) -> Put
+) -> Result<(), NotTaken>
     ensures { (result, ring.new)
         ≡ put_entry ring.old start pending kind first.now second.now }
 {
     let size = ring.len();
     if size <= start {
-        return Put::NotTaken;
+        return Err(NotTaken);
     }
     if size < pending {
-        return Put::NotTaken;
+        return Err(NotTaken);
     }
     if journal_entry::FIRST_LIMIT < first.len() {
-        return Put::NotTaken;
+        return Err(NotTaken);
     }
-    if second_limit(kind) < second.len() {
-        return Put::NotTaken;
+    if kind.second_limit() < second.len() {
+        return Err(NotTaken);
     }
     if size - pending < 8 + first.len() + second.len() {
-        return Put::NotTaken;
+        return Err(NotTaken);
     }
-    let at = place(size, start, pending);
+    let at = advance(size, start, pending);
     put_form(ring, at, kind, first, second);
-    Put::Done
+    Ok(())
 }

@@ -1,20 +1,19 @@
 -- What a record tells of its numbers whose counts hang together but for the last freeze, and back. Assumes nothing.
+use Rattle.std.specs.Prelude.{Option, None, Some}
 use Prim.Native.Nat.{ℕ, ◌+◌, ◌*◌, ◌-◌, ◌≤◌, ◌<◌, min, max}
 use mathlib.Core.Bool.{Bool, true, false, cond, ◌&&◌}
 use mathlib.Core.Path.{◌≡◌, refl, sym}
 use native.Mathlib.Omega.{arith}
 use lib.Dec.{leb, ltb, eqb}
-use borrow.Author.Tests.{le-leb, lt-leb, lt-ltb, eq-eqb, ne_eqb, leb-true, ltb-true, eqb-true, eqb-false}
+use borrow.Author.Tests.{le-leb, lt-ltb, eq-eqb, leb-true, ltb-true, eqb-true, eqb-false}
 use Rattle.disk_layout.specs.DiskLayout.{blocks_in_range}
 use Rattle.disk_layout.proofs.Intervals as intervals
-use Rattle.refusals.proofs.Tests.{both, leb_same, never, impossible}
+use Rattle.refusals.proofs.Tests.{both, never, impossible}
 use Rattle.replay_cursor.specs.Cursor.{counts_hang}
 use Rattle.replay_cursor.proofs.Counts.{counts_least, counts_most, counts_true}
 use Rattle.journalist.specs.Record.{in_range, list_weight, start_hangs, region_hangs, side_hangs, base_hangs}
 use Rattle.journalist.specs.Recovery.{side_blocks}
 use Rattle.journalist.specs.declared.Pending.{Pending}
-use Rattle.journalist.specs.declared.Side.{Side}
-use Rattle.journalist.specs.declared.Side.TheVariants.{Absent, Blocks}
 use Rattle.journalist.specs.declared.Journalist.{Journalist}
 
 -- N and R
@@ -51,13 +50,6 @@ start_true r s h = go (eqb r 0) refl
     go true q = let z : r ≡ 0 = eqb-true r 0 q in eq-eqb s 0 (omega arith)
     go false q = lt-ltb s r (omega (arith, eqb-false r 0 q))
 
--- a sum compared by what is left of the limit behind its first number
-pub both_over : (limit a b : ℕ) → limit < a → false ≡ leb (a + b) limit
-both_over limit a b h = sym (lt-leb (a + b) limit (omega arith))
-
-pub both_room : (limit a b : ℕ) → a ≤ limit → leb b (limit - a) ≡ leb (a + b) limit
-both_room limit a b h = leb_same b (limit - a) (a + b) limit (omega arith) (omega arith)
-
 -- the weight: at most 8 more than the bytes, and without cases where a list with no entries has no bytes
 pub weight_high : (l : Pending) → list_weight l ≤ l.bytes + 8
 unfolding list_weight
@@ -78,10 +70,6 @@ weight_is l h = go (eqb l.entries 0) refl
 pub weight_none : (l : Pending) → l.entries ≡ 0 → list_weight l ≡ 0
 unfolding list_weight
 weight_none l z = simp z
-
-pub weight_some : (l : Pending) → (l.entries ≡ 0 → ⊥) → list_weight l ≡ l.bytes + 8
-unfolding list_weight
-weight_some l s = simp (ne_eqb l.entries 0 s)
 
 -- a weight of a list of a ring is far below the largest number, at which `list_weight` stops
 pub weight_exact : (l : Pending) (w : ℕ) → l.bytes ≤ 8388608 → w ≡ min (list_weight l) 0xffff_ffff_ffff_ffff
@@ -118,36 +106,27 @@ region_true n w d m f k =
       le-leb f (4064 * d) k.frozen_in,
     )
 
--- a list by itself: its weight within so many bytes, or not
-pub list_over : (l : Pending) (room w : ℕ) → l.bytes ≤ 8388608 → w ≡ min (list_weight l) 0xffff_ffff_ffff_ffff
-    → room < w → false ≡ (leb (list_weight l) room && counts_hang l.entries l.bytes)
-list_over l room w h e over = let k = weight_exact l w h e in simp (lt-leb (list_weight l) room (omega arith))
-
-pub list_within : (l : Pending) (room w : ℕ) → l.bytes ≤ 8388608 → w ≡ min (list_weight l) 0xffff_ffff_ffff_ffff
-    → w ≤ room → counts_hang l.entries l.bytes ≡ (leb (list_weight l) room && counts_hang l.entries l.bytes)
-list_within l room w h e in-room = let k = weight_exact l w h e in simp (le-leb (list_weight l) room (omega arith))
-
 -- front and back
-pub side_none : (n : ℕ) → side_hangs n Absent ≡ true
+pub side_none : (n : ℕ) → side_hangs n None ≡ true
 unfolding side_hangs
 side_none n = refl
 
-pub side_fact : (n k : ℕ) → side_hangs n (Blocks k) ≡ true → k ≤ n
+pub side_fact : (n k : ℕ) → side_hangs n (Some k) ≡ true → k ≤ n
 unfolding side_hangs
 side_fact n k h = leb-true k n h
 
-pub side_true : (n k : ℕ) → k ≤ n → side_hangs n (Blocks k) ≡ true
+pub side_true : (n k : ℕ) → k ≤ n → side_hangs n (Some k) ≡ true
 unfolding side_hangs
 side_true n k h = le-leb k n h
 
 -- the same by the blocks, none where there is no side
-pub side_most : (n : ℕ) (s : Side) → side_hangs n s ≡ true → side_blocks s ≤ n
-side_most n Absent h = omega arith
-side_most n (Blocks k) h = side_fact n k h
+pub side_most : (n : ℕ) (s : Option ℕ) → side_hangs n s ≡ true → side_blocks s ≤ n
+side_most n None h = omega arith
+side_most n (Some k) h = side_fact n k h
 
-pub side_hangs_lem : (n : ℕ) (s : Side) → side_blocks s ≤ n → side_hangs n s ≡ true
-side_hangs_lem n Absent h = side_none n
-side_hangs_lem n (Blocks k) h = side_true n k h
+pub side_hangs_lem : (n : ℕ) (s : Option ℕ) → side_blocks s ≤ n → side_hangs n s ≡ true
+side_hangs_lem n None h = side_none n
+side_hangs_lem n (Some k) h = side_true n k h
 
 -- the numbers of a record that hangs together: linear facts alone, so that `omega` reads and proves the whole of it
 pub record Counts (n r start fe fb me mb clones written held : ℕ) : Type 0 where

@@ -1,5 +1,6 @@
 -- What a thaw takes back: document 02, paper 2. Appends in between stay behind by `append_stays_behind` (AppendLaws).
 -- Assumes nothing.
+use Rattle.std.specs.Prelude.{None}
 use mathlib.Core.Path.{◌≡◌, refl, sym, ap, ◌∙◌}
 use mathlib.Core.Bool.{true, false}
 use mathlib.Core.List.{[], ◌∷◌}
@@ -8,7 +9,6 @@ use Rattle.refusals.specs.Outcome.{gives}
 use Rattle.journal_entry.specs.Entry.{JournalEntry, journal_insert}
 use Rattle.replay_cursor.specs.Cursor.{counts_hang}
 use Rattle.journalist.specs.declared.Last.{Last}
-use Rattle.journalist.specs.declared.Side.TheVariants.{Absent}
 use Rattle.journalist.specs.declared.Journalist.{Journalist}
 use Rattle.journalist.specs.Updates.{no_freeze, with_last}
 use Rattle.journalist.specs.Record.{in_range, start_hangs, region_hangs, side_hangs, list_weight, base_hangs}
@@ -59,8 +59,8 @@ crowded =
       written = 0;
       held = 1;
       replay = record { place = 0; bytes = 0; entries = 0 };
-      front = Absent;
-      back = Absent;
+      front = None;
+      back = None;
     }
 
 abbrev sixteen : JournalEntry

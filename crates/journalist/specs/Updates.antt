@@ -1,9 +1,8 @@
 -- Small updates of the record, in which the calls' changes are written down. Assumes nothing.
-use Rattle.std.specs.Prelude.{ℕ, ◌+◌, ◌-◌}
+use Rattle.std.specs.Prelude.{Option, ℕ, ◌+◌, ◌-◌}
 use Rattle.replay_cursor.specs.declared.Replay.{Replay}
 use Rattle.journalist.specs.declared.Pending.{Pending}
 use Rattle.journalist.specs.declared.Last.{Last}
-use Rattle.journalist.specs.declared.Side.{Side}
 use Rattle.journalist.specs.declared.Journalist.{Journalist}
 
 -- a list with no entries, one list behind another, and a list without the entries at its end
@@ -65,7 +64,7 @@ abbrev pub with_clones : Journalist → (clones : ℕ) → Journalist
 with_clones j clones = with_pending j j.start j.frozen j.memory j.last clones j.written j.held
 
 -- What the calls of a recovery may change: replay, front and back.
-abbrev pub with_recovery : Journalist → Replay → (front back : Side) → Journalist
+abbrev pub with_recovery : Journalist → Replay → (front back : Option ℕ) → Journalist
 with_recovery j replay front back =
     record {
       blocks = j.blocks;
@@ -87,5 +86,5 @@ abbrev pub with_replay : Journalist → Replay → Journalist
 with_replay j replay = with_recovery j replay j.front j.back
 
 -- another front and back
-abbrev pub with_sides : Journalist → (front back : Side) → Journalist
+abbrev pub with_sides : Journalist → (front back : Option ℕ) → Journalist
 with_sides j front back = with_recovery j j.replay front back

@@ -1,12 +1,12 @@
 // Freeze, and thaw, which takes the last freeze back. No byte of the ring moves: the in-memory list's forms lie
 // straight behind the frozen list's.
 ghost use Rattle.std.specs.Prelude.{◌≡◌, true, ◌≤◌};
+ghost use Rattle.refusals.specs.Answers.{outcome_of};
 ghost use Rattle.journalist.specs.Record.{base_hangs, thawed_record};
 ghost use Rattle.journalist.specs.Changes.{memory_blocks, last_freeze};
-ghost use Rattle.journalist.specs.Answers.{record_outcome};
 ghost use Rattle.journalist.specs.Calls.{freeze_call, thaw_call};
 
-use crate::{Journalist, Last, Pending, Recorded, blocks_for, list_weight};
+use crate::{Journalist, Last, Pending, blocks_for, list_weight};
 use refusals::Refusal;
 
 impl Journalist {
@@ -16,35 +16,30 @@ impl Journalist {
         ensures { result ≡ last_freeze self }
     {
         if self.memory.entries == 0 {
-            return self.last;
-        }
-        Last {
-            entries: self.memory.entries,
-            bytes: self.memory.bytes,
-            blocks: more,
+            self.last
+        } else {
+            Last {
+                entries: self.memory.entries,
+                bytes: self.memory.bytes,
+                blocks: more,
+            }
         }
     }
 
     // Moves the in-memory list behind the frozen one and keeps blocks for it.
-    pub fn freeze(self) -> Recorded
-        ensures { record_outcome result ≡ freeze_call self }
+    #[tactic(auto, unfolding(crate::specs::Calls::freeze_call, crate::specs::Changes::frozen_record))]
+    pub fn freeze(self) -> Result<Journalist, Refusal>
+        ensures { outcome_of result ≡ freeze_call self }
     {
-        if !self.hangs_together() {
-            return Recorded::Refused(Refusal::CountsDisagree);
-        }
-        let weight = list_weight(self.memory);
-        let more = blocks_for(weight);
-        let last = self.last_freeze(more);
-        Recorded::Done(Journalist {
+        self.checked()?;
+        let more = blocks_for(list_weight(self.memory));
+        Ok(Journalist {
             frozen: Pending {
                 entries: self.frozen.entries + self.memory.entries,
                 bytes: self.frozen.bytes + self.memory.bytes,
             },
-            memory: Pending {
-                entries: 0,
-                bytes: 0,
-            },
-            last: last,
+            memory: Pending::NONE,
+            last: self.last_freeze(more),
             held: self.held + more,
             ..self
         })
@@ -67,27 +62,21 @@ impl Journalist {
                 entries: self.last.entries + self.memory.entries,
                 bytes: self.last.bytes + self.memory.bytes,
             },
-            last: Last {
-                entries: 0,
-                bytes: 0,
-                blocks: 0,
-            },
+            last: Last::NONE,
             held: self.held - self.last.blocks,
             ..self
         }
     }
 
     // Takes back the last freeze: its entries go in front of the in-memory list, where their bytes lie already.
-    pub fn thaw(self) -> Recorded
-        ensures { record_outcome result ≡ thaw_call self }
+    #[tactic(auto, unfolding(crate::specs::Calls::thaw_call))]
+    pub fn thaw(self) -> Result<Journalist, Refusal>
+        ensures { outcome_of result ≡ thaw_call self }
     {
-        if !self.hangs_together() {
-            return Recorded::Refused(Refusal::CountsDisagree);
-        }
+        self.checked()?;
         if self.last.entries == 0 {
-            return Recorded::Refused(Refusal::NoFreeze);
+            return Err(Refusal::NoFreeze);
         }
-        let thawed = self.thawed();
-        Recorded::Done(thawed)
+        Ok(self.thawed())
     }
 }

@@ -4,58 +4,60 @@
 
 ghost use Rattle.std.specs.Prelude.{◌≡◌, ◌<◌, ◌≤◌, IfOk, length, take};
 ghost use Rattle.std.specs.Io.KnownBytes.{Consumes, IsAtEnd};
-ghost use Rattle.lister.specs.Lister.{listed_payload, listed_image};
+ghost use Rattle.lister.specs.Lister.{image_number_of, listed_payload, listed_image};
 
-use journal_image::BlocksAnswer;
-use journal_range::LoadRead;
-use listing::Listed;
-use refusals::Refusal;
+use journal_entry::Joined;
+use refusals::{ImageRefusal, Refusal};
 use std::io;
 use std::io::Read;
 
+// A refusal's number. Which block is damaged is not printed.
+fn number(why: ImageRefusal) -> u64
+    ensures { result ≡ image_number_of why }
+{
+    match why {
+        ImageRefusal::ChecksumDiffers(_) => 12,
+        ImageRefusal::Plain(why) => why.into(),
+    }
+}
+
 // The text of a payload's entries. The replay buffer takes their wire forms.
-fn list_payload(payload: &[u8], replay: &mut [u8], text: &mut [u8]) -> Listed
+fn list_payload(payload: &[u8], replay: &mut [u8], text: &mut [u8]) -> Result<usize, Refusal>
     ensures { (result, text.new)
         ≡ listed_payload payload.now (length replay.old) text.old }
 {
-    let load = journal_range::load(payload, &payload[0..0], replay);
-    match load {
-        LoadRead::Unreadable => listing::list_refusal(refusals::number(Refusal::Unreadable), text),
-        LoadRead::Short => Listed::Short,
-        LoadRead::Loaded { entries, bytes } => listing::list_entries(
-            &replay[0..bytes],
-            entries,
-            text,
-        ),
+    let whole = Joined {
+        front: payload,
+        back: &payload[0..0],
+    };
+    match journal_range::load(&whole, replay) {
+        Ok(range) => listing::list_entries(&replay[0..range.bytes], range.entries, text),
+        Err(Refusal::Unreadable) => listing::list_refusal(Refusal::Unreadable.into(), text),
+        Err(short) => Err(short),
     }
 }
 
 // The text of an image. The payload buffer takes its payload.
-fn list_image(image: &[u8], payload: &mut [u8], replay: &mut [u8], text: &mut [u8]) -> Listed
+#[tactic(auto, using(crate::proofs::Images::too_short))]
+fn list_image(
+    image: &[u8],
+    payload: &mut [u8],
+    replay: &mut [u8],
+    text: &mut [u8],
+) -> Result<usize, Refusal>
     ensures { (result, text.new)
         ≡ listed_image image.now (length payload.old) (length replay.old)
         text.old }
 {
-    if payload.len() < 60960 {
-        return Listed::Short;
-    }
-    if replay.len() < 60960 {
-        return Listed::Short;
-    }
-    if text.len() < 121952 {
-        return Listed::Short;
+    if payload.len() < 60960 || replay.len() < 60960 || text.len() < 121952 {
+        return Err(Refusal::OutputTooShort);
     }
     if 61440 < image.len() {
-        return listing::list_refusal(refusals::number(Refusal::PayloadNotWhole), text);
+        return listing::list_refusal(Refusal::PayloadNotWhole.into(), text);
     }
-    let strip = journal_image::strip(image, payload);
-    match strip {
-        BlocksAnswer::Refused(why) => listing::list_refusal(refusals::number(why), text),
-        BlocksAnswer::ChecksumDiffers(_) => listing::list_refusal(12, text),
-        BlocksAnswer::Blocks(blocks) => {
-            let end = 4064 * blocks;
-            list_payload(&payload[0..end], replay, text)
-        }
+    match journal_image::strip(image, payload) {
+        Ok(blocks) => list_payload(&payload[0..4064 * blocks], replay, text),
+        Err(why) => listing::list_refusal(number(why), text),
     }
 }
 
@@ -63,15 +65,6 @@ fn list_image(image: &[u8], payload: &mut [u8], replay: &mut [u8], text: &mut [u
 fn say(rt: &(impl Print + Eprint), text: &[u8]) -> io::Result<()> {
     if rt.write_all(text).is_err() {
         return eprintln!(rt; "lister: the output was not taken");
-    }
-    Ok(())
-}
-
-fn print(rt: &(impl Print + Eprint), listed: Listed, text: &[u8]) -> io::Result<()> {
-    if let Listed::Text(end) = listed {
-        if end <= text.len() {
-            return say(rt, &text[0..end]);
-        }
     }
     Ok(())
 }
@@ -104,6 +97,8 @@ fn main(rt: HostRuntime) -> io::Result<()> {
     let mut payload = [0u8; 60960];
     let mut replay = [0u8; 60960];
     let mut text = [0u8; 121952];
-    let listed = list_image(&image[..n], &mut payload, &mut replay, &mut text);
-    print(&rt, listed, &text)
+    let Ok(end) = list_image(&image[..n], &mut payload, &mut replay, &mut text) else {
+        return Ok(());
+    };
+    say(&rt, &text[..end])
 }

@@ -13,24 +13,23 @@ use Rattle.refusals.proofs.Tests.{both, impossible}
 use Rattle.journalist.specs.Calls.{present}
 use Rattle.journalist.specs.Recovery.{side_blocks}
 use Rattle.journalist.specs.declared.Journalist.{Journalist}
-use Rattle.journalist.specs.declared.Side.{Side}
-use Rattle.journalist.specs.declared.Side.TheVariants.{Absent, Blocks}
-use Rattle.record_words.specs.declared.Decoded.TheVariants.{Damaged, Of}
+use Rattle.std.specs.Prelude.{Option, None, Some}
+use Rattle.std.proofs.lemmas.Option.{same_Some}
 use Rattle.record_words.specs.Words.{layout, word_count, flag_of, words_of, side_reads, side_of, words_read, record_at}
 use Rattle.record_words.specs.Words.{decode_of}
 
-side_reads_again : (s : Side) → side_reads (flag_of (present s)) (side_blocks s) ≡ true
+side_reads_again : (s : Option ℕ) → side_reads (flag_of (present s)) (side_blocks s) ≡ true
 unfolding side_reads
-side_reads_again Absent = refl
-side_reads_again (Blocks k) = refl
+side_reads_again None = refl
+side_reads_again (Some k) = refl
 
-side_again : (s : Side) → side_of (flag_of (present s)) (side_blocks s) ≡ s
+side_again : (s : Option ℕ) → side_of (flag_of (present s)) (side_blocks s) ≡ s
 unfolding side_of
-side_again Absent = refl
-side_again (Blocks k) = refl
+side_again None = refl
+side_again (Some k) = refl
 
 -- the round trip, whatever words lie behind
-pub decoded_again : (j : Journalist) (t : List ℕ) → decode_of (words_of j ++ t) ≡ Of j
+pub decoded_again : (j : Journalist) (t : List ℕ) → decode_of (words_of j ++ t) ≡ Some j
 unfolding decode_of words_read record_at
 decoded_again j t =
     rw (
@@ -48,8 +47,8 @@ unfolding side_reads side_of
 side_words flag blocks h = go (eqb flag 0) refl h
   where
     go : (t : Bool) → eqb flag 0 ≡ t → cond t (eqb blocks 0) (eqb flag 1) ≡ true
-        → (flag_of (present (cond t Absent (Blocks blocks))) ≡ flag)
-        × (side_blocks (cond t Absent (Blocks blocks)) ≡ blocks)
+        → (flag_of (present (cond t None (Some blocks))) ≡ flag)
+        × (side_blocks (cond t None (Some blocks)) ≡ blocks)
     go true e k = (sym (eqb-true flag 0 e), sym (eqb-true blocks 0 k))
     go false e k = (sym (eqb-true flag 1 k), refl)
 
@@ -77,19 +76,19 @@ own_words words h =
     (enough, one_by_one word_count 0 words enough ∙ rw (f, fk, b, bk, eqb-true (get_or words 0 0) layout version))
 
 -- a record has one layout only: the first words of a list that decodes are the record's
-pub decoded_words : (words : List ℕ) (j : Journalist) → decode_of words ≡ Of j
+pub decoded_words : (words : List ℕ) (j : Journalist) → decode_of words ≡ Some j
     → (word_count ≤ length words) × (take word_count words ≡ words_of j)
 unfolding decode_of
 decoded_words words j h = go (words_read words) refl h
   where
-    go : (t : Bool) → words_read words ≡ t → cond t (Of (record_at words)) Damaged ≡ Of j
+    go : (t : Bool) → words_read words ≡ t → cond t (Some (record_at words)) None ≡ Some j
         → (word_count ≤ length words) × (take word_count words ≡ words_of j)
     go true e d =
-        let is : record_at words ≡ j = cc in
+        let is : record_at words ≡ j = same_Some _ _ d in
         let own = own_words words e in
         (own.0, own.1 ∙ ap words_of is)
     go false e d = impossible cc
 
-pub one_layout : (words words' : List ℕ) (j : Journalist) → decode_of words ≡ Of j → decode_of words' ≡ Of j
+pub one_layout : (words words' : List ℕ) (j : Journalist) → decode_of words ≡ Some j → decode_of words' ≡ Some j
     → take word_count words ≡ take word_count words'
 one_layout words words' j h h' = (decoded_words words j h).1 ∙ sym (decoded_words words' j h').1

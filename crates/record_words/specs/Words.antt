@@ -1,12 +1,9 @@
 -- The record as words of 64 bits. Assumes nothing.
 use Rattle.std.specs.Prelude.{Bool, true, false, cond, ◌&&◌, List, [], ◌∷◌, ℕ, leb, eqb, length, get_or}
+use Rattle.std.specs.Prelude.{Option, None, Some}
 use Rattle.journalist.specs.Calls.{present}
 use Rattle.journalist.specs.Recovery.{side_blocks}
 use Rattle.journalist.specs.declared.Journalist.{Journalist}
-use Rattle.journalist.specs.declared.Side.{Side}
-use Rattle.journalist.specs.declared.Side.TheVariants.{Absent, Blocks}
-use Rattle.record_words.specs.declared.Decoded.{Decoded}
-use Rattle.record_words.specs.declared.Decoded.TheVariants.{Damaged, Of}
 
 -- the version of the layout, and how many words it has
 abbrev pub layout : ℕ
@@ -50,8 +47,8 @@ words_of j =
 unfoldable pub side_reads : (flag blocks : ℕ) → Bool
 side_reads flag blocks = cond (eqb flag 0) (eqb blocks 0) (eqb flag 1)
 
-unfoldable pub side_of : (flag blocks : ℕ) → Side
-side_of flag blocks = cond (eqb flag 0) Absent (Blocks blocks)
+unfoldable pub side_of : (flag blocks : ℕ) → Option ℕ
+side_of flag blocks = cond (eqb flag 0) None (Some blocks)
 
 -- the word at a place
 abbrev at : List ℕ → ℕ → ℕ
@@ -81,5 +78,5 @@ record_at words =
       last = record { entries = at words 18; bytes = at words 19; blocks = at words 20 };
     }
 
-unfoldable pub decode_of : List ℕ → Decoded
-decode_of words = cond (words_read words) (Of (record_at words)) Damaged
+unfoldable pub decode_of : List ℕ → Option Journalist
+decode_of words = cond (words_read words) (Some (record_at words)) None

@@ -9,14 +9,13 @@
 // Words behind them are neither read nor changed.
 #![tactic(auto)]
 
-ghost use Rattle.std.specs.Prelude.{◌≡◌, ◌++◌, ◌≤◌, length, drop};
-ghost use Rattle.journalist.specs.Answers.{record_outcome};
-ghost use Rattle.journalist.specs.Calls.{present};
-ghost use Rattle.journalist.specs.Recovery.{side_blocks};
-ghost use Rattle.record_words.specs.Words.{word_count, flag_of, words_of, side_reads, side_of, decode_of};
+ghost use Rattle.std.specs.Prelude.{◌≡◌, cond, ◌++◌, ◌≤◌, length, drop, MatchResult, OnOk, Some, None};
+ghost use Rattle.refusals.specs.declared.Refusal.TheVariants.{CountsDisagree};
+ghost use Rattle.refusals.specs.Answers.{outcome_of};
+ghost use Rattle.record_words.specs.Words.{word_count, words_of, side_reads, side_of, decode_of};
 ghost use Rattle.record_words.specs.Calls.{code_of, fitted_to, words_after};
 
-use journalist::{Journalist, Last, Pending, Recorded, Side};
+use journalist::{Journalist, Last, Pending};
 use refusals::Refusal;
 use replay_cursor::Replay;
 
@@ -25,67 +24,34 @@ pub const LAYOUT: u64 = 3;
 
 pub const WORDS: usize = 21;
 
-// What words say: no record, or a record whose counts may still not hang together.
-#[derive(Clone, Copy)]
-pub enum Decoded {
-    Damaged,
-    Of(Journalist),
-}
-
-// Whether two words say a side. One with no blocks to count has the blocks 0, so that no side has two forms.
-fn side_reads(flag: u64, blocks: u64) -> bool
-    ensures { result ≡ side_reads flag blocks }
+// The side that two words say, if they say one. A side with no blocks to count has the blocks 0, so that no side has
+// two forms.
+#[tactic(auto, unfolding(crate::specs::Words::side_reads, crate::specs::Words::side_of))]
+fn side(flag: u64, blocks: u64) -> Option<Option<usize>>
+    ensures { result ≡ cond (side_reads flag blocks) (Some (side_of flag blocks)) None }
 {
-    if flag == 0 {
-        return blocks == 0;
-    }
-    flag == 1
-}
-
-fn side(flag: u64, blocks: u64) -> Side
-    ensures { result ≡ side_of flag blocks }
-{
-    if flag == 0 {
-        return Side::Absent;
-    }
-    Side::Blocks(blocks as usize)
-}
-
-fn flag_of(side: Side) -> u64
-    ensures { result ≡ flag_of (present side) }
-{
-    match side {
-        Side::Absent => 0,
-        Side::Blocks(_) => 1,
+    match flag {
+        0 if blocks == 0 => Some(None),
+        1 => Some(Some(blocks as usize)),
+        _ => None,
     }
 }
 
-fn blocks_of(side: Side) -> u64
-    ensures { result ≡ side_blocks side }
+// The record that words say, whose counts may still not hang together. Words that say none are refused as if they
+// did not: 2.
+#[tactic(auto, unfolding(crate::specs::Words::decode_of, crate::specs::Words::words_read, crate::specs::Words::record_at))]
+pub fn decode(words: &[u64]) -> Result<Journalist, Refusal>
+    ensures said { MatchResult result
+        (λ j. decode_of words.now ≡ Some j)
+        (λ why. (decode_of words.now ≡ None) × (why ≡ CountsDisagree)) }
+    ensures room { OnOk result (word_count ≤ length words.now) }
 {
-    match side {
-        Side::Absent => 0,
-        Side::Blocks(k) => k as u64,
+    if words.len() < WORDS || words[0] != LAYOUT {
+        return Err(Refusal::CountsDisagree);
     }
-}
-
-// The record that words say.
-pub fn decode(words: &[u64]) -> Decoded
-    ensures { result ≡ decode_of words.now }
-{
-    if words.len() < WORDS {
-        return Decoded::Damaged;
-    }
-    if words[0] != LAYOUT {
-        return Decoded::Damaged;
-    }
-    if !side_reads(words[13], words[14]) {
-        return Decoded::Damaged;
-    }
-    if !side_reads(words[15], words[16]) {
-        return Decoded::Damaged;
-    }
-    Decoded::Of(Journalist {
+    let front = side(words[13], words[14]).ok_or(Refusal::CountsDisagree)?;
+    let back = side(words[15], words[16]).ok_or(Refusal::CountsDisagree)?;
+    Ok(Journalist {
         blocks: words[1] as usize,
         ring: words[2] as usize,
         start: words[3] as usize,
@@ -104,8 +70,8 @@ pub fn decode(words: &[u64]) -> Decoded
             bytes: words[11] as usize,
             entries: words[12] as usize,
         },
-        front: side(words[13], words[14]),
-        back: side(words[15], words[16]),
+        front,
+        back,
         clones: words[17] as usize,
         last: Last {
             entries: words[18] as usize,
@@ -134,10 +100,10 @@ fn store(words: &mut [u64], j: Journalist)
     words[10] = j.replay.place as u64;
     words[11] = j.replay.bytes as u64;
     words[12] = j.replay.entries as u64;
-    words[13] = flag_of(front);
-    words[14] = blocks_of(front);
-    words[15] = flag_of(back);
-    words[16] = blocks_of(back);
+    words[13] = u64::from(front.is_some());
+    words[14] = front.unwrap_or(0) as u64;
+    words[15] = u64::from(back.is_some());
+    words[16] = back.unwrap_or(0) as u64;
     words[17] = j.clones as u64;
     words[18] = j.last.entries as u64;
     words[19] = j.last.bytes as u64;
@@ -146,17 +112,15 @@ fn store(words: &mut [u64], j: Journalist)
 
 // A call's record to the words, and its number: 0, its refusal's, or 9 where there are too few. (Words that were
 // decoded are never fewer.)
-pub fn put(words: &mut [u64], answer: Recorded) -> u64
-    ensures value { result ≡ code_of (fitted_to words.old (record_outcome answer)) }
+pub fn put(words: &mut [u64], answer: Result<Journalist, Refusal>) -> u64
+    ensures value { result ≡ code_of (fitted_to words.old (outcome_of answer)) }
     ensures words_new { words.new
-        ≡ words_after words.old (fitted_to words.old (record_outcome answer)) }
+        ≡ words_after words.old (fitted_to words.old (outcome_of answer)) }
 {
     match answer {
-        Recorded::Refused(why) => refusals::number(why),
-        Recorded::Done(j) => {
-            if words.len() < WORDS {
-                return refusals::number(Refusal::OutputTooShort);
-            }
+        Err(why) => why.into(),
+        Ok(_) if words.len() < WORDS => Refusal::OutputTooShort.into(),
+        Ok(j) => {
             store(words, j);
             0
         }

@@ -1,4 +1,3 @@
 pub mod Cursor
-pub mod Answers
 pub mod Calls
 pub mod Lent

@@ -1,10 +1,10 @@
 -- One run put behind the other is their join put once; a run of two lists joined. Assumes nothing.
 use mathlib.Core.Path.{◌≡◌, refl, sym, ap, ap₂, ◌∙◌}
-use mathlib.Core.List.{List, [], ◌++◌, append_assoc, append-nil}
+use mathlib.Core.List.{List, [], ◌++◌, append_assoc}
 use Prim.Native.Nat.{ℕ, ◌+◌, ◌-◌, ◌≤◌}
 use native.Mathlib.Nat.{le_of_eq}
 use native.Mathlib.Omega.{arith}
-use lib.ListN.{length, take, drop, length-append, length-take, length-drop, take-append-drop, drop_of_length-le}
+use lib.ListN.{length, take, drop, length-append, length-take, length-drop, take-append-drop}
 use lib.Seq.{take_at, take_all, take-append-le, take-append-add, drop-append-le, drop-append-add, drop-drop}
 use borrow.Rule.Slice.PartMut.{put_mid}
 use Rattle.words.proofs.Slices.{tail}
@@ -88,28 +88,6 @@ module _ (a b : List ℕ) (at n : ℕ) where
       ∙ splice_splice d to x (omega arith) y
       ∙ ap (splice d to) (sym (run_across h k))
 
--- a run copied to the part of d from `to` on, which then goes back to its place
-module _ (d src : List ℕ) (to from n : ℕ) (reads : from + n ≤ length src) (fits : to + n ≤ length d) where
-  abbrev lent : List ℕ
-  lent = take (from + n - from) (drop from src)
-
-  lent_is : lent ≡ run src from n
-  lent_is = let e : from + n - from ≡ n = omega arith in rw e
-
-  run_long : length (run src from n) ≡ n
-  run_long = simp (length-take, length-drop) (omega arith)
-
-  pub copied : (ys : List ℕ) → ys ≡ take (length lent) lent ++ drop (length lent) (take (length d - to) (drop to d))
-      → take to d ++ (ys ++ drop (length d - to) (drop to d)) ≡ splice d to (run src from n)
-  unfolding splice
-  copied ys e =
-      let none : drop (length d - to) (drop to d) ≡ [] = drop_of_length-le (drop to d) (le_of_eq (length-drop to d)) in
-      let whole : take (length lent) lent ≡ lent = take_all (length lent) lent (omega arith) in
-      let rest : drop (length lent) (take (length d - to) (drop to d)) ≡ drop (to + length (run src from n)) d =
-      ap₂ drop (ap length lent_is) (tail to d) ∙ drop-drop (length (run src from n)) to d in
-      ap₂ (λ (p q : List ℕ). take to d ++ (p ++ q)) (e ∙ ap₂ ◌++◌ (whole ∙ lent_is) rest) none
-      ∙ ap (λ (l : List ℕ). take to d ++ l) (append-nil (run src from n ++ drop (to + length (run src from n)) d))
-
 -- a write to the part of d that starts at `at` and is as long as what it holds then
 pub put_mid_splice : (d ys zs : List ℕ) (at k : ℕ) → ys ≡ zs → length zs ≡ k → put_mid at k d ys ≡ splice d at zs
 unfolding splice
@@ -122,13 +100,3 @@ pub put_mid_front : (d s ys : List ℕ) (k : ℕ) → ys ≡ s → length s ≡ 
     → put_mid 0 k d ys ≡ take (length s) s ++ drop (length s) d
 put_mid_front d s ys k e n =
     ap₂ ◌++◌ (e ∙ sym (take_all (length s) s (le_of_eq refl))) (ap (λ (m : ℕ). drop m d) (sym n))
-
--- what is left of two lists joined, from a place in the first or in the second
-module _ (a b : List ℕ) (at : ℕ) where
-  pub rest_left : at ≤ length a → take (length a - at) (drop at a) ++ b ≡ drop at (a ++ b)
-  rest_left h = ap (λ (l : List ℕ). l ++ b) (tail at a) ∙ sym (drop-append-le at a b h)
-
-  pub rest_right : length a ≤ at → take (length b - (at - length a)) (drop (at - length a) b) ++ [] ≡ drop at (a ++ b)
-  rest_right h =
-      let e : length a + (at - length a) ≡ at = omega arith in
-      append-nil _ ∙ tail (at - length a) b ∙ sym (rw e at (drop-append-add a b (at - length a)))

@@ -2,37 +2,34 @@
 #![tactic(auto)]
 
 ghost use Rattle.std.specs.Prelude.{◌≡◌, [], ◌∷◌, length, replicate};
-ghost use Rattle.words.specs.Words.{unpack};
+ghost use Rattle.words.specs.Words.{unpack, word};
 ghost use Rattle.words.specs.Lists.{all_zero};
 
 // The 32-bit word that four bytes say. (On bytes that lie side by side this is compiled to one load.)
 pub fn word_of(a: u8, b: u8, c: u8, d: u8) -> u32
     ensures { result ≡ unpack (a ∷ b ∷ c ∷ d ∷ []) }
 {
-    a as u32 + 256 * (b as u32 + 256 * (c as u32 + 256 * (d as u32)))
+    u32::from_le_bytes([a, b, c, d])
+}
+
+// The four bytes of a 32-bit word.
+#[tactic(auto, unfolding(crate::specs::Words::word))]
+pub fn bytes_of(n: u32) -> [u8; 4]
+    ensures { result ≡ word n }
+{
+    n.to_le_bytes()
 }
 
 // Zeros over the whole of dst.
 pub fn zero_fill(dst: &mut [u8])
     ensures { dst.new ≡ replicate (length dst.old) 0 }
 {
-    let mut i = 0;
-    while i < dst.len() {
-        dst[i] = 0;
-        i += 1;
-    }
+    dst.fill(0);
 }
 
 // Whether every byte is 0.
 pub fn all_zero(s: &[u8]) -> bool
     ensures { result ≡ all_zero s.now }
 {
-    let mut i = 0;
-    while i < s.len() {
-        if s[i] != 0 {
-            return false;
-        }
-        i += 1;
-    }
-    true
+    s.iter().all(|b| *b == 0)
 }

@@ -1,40 +1,23 @@
--- `card::find` meets its contract: what the test comes to, and the payload where it gives blocks. Assumes nothing.
-use mathlib.Core.Path.{◌≡◌, refl, sym, ap, ◌∙◌}
-use Rattle.journal_image.specs.Strip.{blocks_outcome}
-use Rattle.journal_image.specs.declared.BlocksAnswer.{BlocksAnswer}
-use Rattle.card.specs.Calls.{find_call}
-use Rattle.card.proofs.CallLaws.{find_told, find_refused, find_named, find_given}
+-- `card::find` meets its contract: nothing is written where a test fails, and else the payload. Assumes nothing.
+use mathlib.Core.Path.{refl}
+use Rattle.refusals.specs.declared.ImageRefusal.TheVariants.{Plain}
+use Rattle.card.proofs.CallLaws.{find_unformed, find_kept, find_told}
 use Rattle.card.proofs.find.Goals as goal
-use Rattle.card.proofs.find.Goals.{After-find_test-tested}
 
--- what the test came to, of an answer that was matched
-came : (c : After-find_test-tested) (r : BlocksAnswer) → c.find_test-tested.result ≡ r
-    → blocks_outcome r ≡ find_call c.args.n c.args.card.now
-    c.args.out.now
-came c r is =
-    sym (ap blocks_outcome is) ∙ c.find_test-tested.ensures c.args.out.now refl
+pub returns-in_err-formed-clause-out_new : goal.returns-in_err-formed-clause-out_new
+returns-in_err-formed-clause-out_new c =
+    let s = c.args in
+    find_kept s.n s.card.now s.out.now (Plain _)
+    (find_unformed s.n s.card.now _ c.in_err-formed.ensures.why s.out.now)
+
+pub returns-in_err-blocks-clause-out_new : goal.returns-in_err-blocks-clause-out_new
+returns-in_err-blocks-clause-out_new c =
+    let f = c.in_ok-formed.formed in
+    let same = c.in_ok-formed.ensures.card in
+    let kept = find_kept f.n f.bytes.now c.args.out.now _ (c.in_err-blocks.ensures c.args.out.now refl) in
+    rw (same.0, same.1) at kept
 
 pub copy_live-requires : goal.copy_live-requires
 copy_live-requires c =
-    let s = c.args in
-    let told = find_told s.n s.card.now s.out.now _
-    (came (goal.at.copy_live-requires c).After-find_test-tested _ c.in-Blocks.is) in
-    (told.few, told.is, told.room)
-
-pub returns-in-Refused : goal.returns-in-Refused
-returns-in-Refused c =
-    let s = c.args in let told = find_refused s.n s.card.now s.out.now _
-    (came (goal.at.returns-in-Refused c).After-find_test-tested _ c.in-Refused.is) in
-    record { result_value = told.0; out_new = told.1 }
-
-pub returns-in-ChecksumDiffers : goal.returns-in-ChecksumDiffers
-returns-in-ChecksumDiffers c =
-    let s = c.args in let told = find_named s.n s.card.now s.out.now 12 _
-    (came (goal.at.returns-in-ChecksumDiffers c).After-find_test-tested _ c.in-ChecksumDiffers.is) in
-    record { result_value = told.0; out_new = told.1 }
-
-pub returns-in-Blocks : goal.returns-in-Blocks
-returns-in-Blocks c =
-    let s = c.args in let told = find_given s.n s.card.now s.out.now _
-    (came (goal.at.returns-in-Blocks c).After-find_test-tested _ c.in-Blocks.is)
-    c.copy_live.new.out c.copy_live.ensures in record { result_value = told.0; out_new = told.1 }
+    let f = c.in_ok-formed.formed in
+    (find_told f.n f.bytes.now c.args.out.now _ (c.in_ok-blocks.ensures c.args.out.now refl)).room

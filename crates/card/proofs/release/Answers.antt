@@ -1,38 +1,28 @@
--- `card::release` meets its contract: what the test comes to, and block 0 where it gives blocks. Assumes nothing.
-use mathlib.Core.Path.{◌≡◌, sym, ap, ◌∙◌}
-use Rattle.journal_image.specs.Strip.{blocks_outcome}
-use Rattle.journal_image.specs.declared.BlocksAnswer.{BlocksAnswer}
-use Rattle.card.specs.Calls.{release_call}
-use Rattle.card.proofs.ReleaseLaws.{release_told, release_refused, release_named, release_dropped}
+-- `card::release` meets its contract: nothing is written where a test fails, and the card has a block 0. Assumes
+-- nothing.
+use native.Mathlib.Omega.{arith}
+use mathlib.Core.Path.{ap}
+use lib.ListN.{length}
+use Rattle.refusals.specs.declared.ImageRefusal.TheVariants.{Plain}
+use Rattle.card.proofs.Formed.{formed_told}
+use Rattle.card.proofs.CallLaws.{release_unformed}
+use Rattle.card.proofs.ReleaseLaws.{release_kept}
 use Rattle.card.proofs.release.Goals as goal
-use Rattle.card.proofs.release.Goals.{After-release_test-tested}
 
--- what the test came to, of an answer that was matched
-came : (c : After-release_test-tested) (r : BlocksAnswer) → c.release_test-tested.result ≡ r
-    → blocks_outcome r ≡ release_call c.args.n c.args.card.now
-came c r is = sym (ap blocks_outcome is) ∙ c.release_test-tested.ensures
-
-pub drop_front-requires : goal.drop_front-requires
-drop_front-requires c =
+pub returns-in_err-of-clause-card_new : goal.returns-in_err-of-clause-card_new
+returns-in_err-of-clause-card_new c =
     let s = c.args in
-    let told = release_told s.n s.card.now _
-    (came (goal.at.drop_front-requires c).After-release_test-tested _ c.in-Blocks.is) in
-    (told.few, told.is, told.within)
+    release_kept s.n s.card.now (Plain _) (release_unformed s.n s.card.now _ c.in_err-of.ensures.why)
 
-pub returns-in-Refused : goal.returns-in-Refused
-returns-in-Refused c =
-    let s = c.args in let told = release_refused s.n s.card.now _
-    (came (goal.at.returns-in-Refused c).After-release_test-tested _ c.in-Refused.is) in
-    record { result_value = told.0; card_new = told.1 }
+pub returns-in_err-release-clause-card_new : goal.returns-in_err-release-clause-card_new
+returns-in_err-release-clause-card_new c =
+    let f = c.in_ok-of.field-0 in
+    let same = c.in_ok-of.ensures.card in
+    let kept = release_kept f.n f.bytes.now _ c.in_err-release.ensures.why in
+    rw (same.0, same.1) at kept
 
-pub returns-in-ChecksumDiffers : goal.returns-in-ChecksumDiffers
-returns-in-ChecksumDiffers c =
-    let s = c.args in let told = release_named s.n s.card.now 12 _
-    (came (goal.at.returns-in-ChecksumDiffers c).After-release_test-tested _ c.in-ChecksumDiffers.is) in
-    record { result_value = told.0; card_new = told.1 }
-
-pub returns-in-Blocks : goal.returns-in-Blocks
-returns-in-Blocks c =
-    let s = c.args in let told =
-    release_dropped s.n s.card.now _ (came (goal.at.returns-in-Blocks c).After-release_test-tested _ c.in-Blocks.is)
-    c.drop_front.new.card c.drop_front.ensures in record { result_value = told.0; card_new = told.1 }
+pub rewrite-requires : goal.rewrite-requires
+rewrite-requires c =
+    let f = c.in_ok-of.field-0 in
+    let same = c.in_ok-of.ensures.card in
+    omega (arith, (formed_told f.n f.bytes.now f.is).size, ap length same.1)

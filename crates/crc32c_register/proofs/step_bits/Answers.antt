@@ -1,12 +1,14 @@
-use mathlib.Core.Path.{sym, ◌∙◌}
-use Rattle.crc32c_register.proofs.Turns.{steps_turn, steps_end}
+-- `crc32c_register::step_bits` meets its contract: one step more at each turn. Assumes nothing.
+use Rattle.std.proofs.Common.{refl, sym, ap, ◌∙◌}
+use Rattle.crc32c_register.specs.Register.{step_bit, step_bits}
+use Rattle.crc32c_register.proofs.Steps.{step_bits_add}
 use Rattle.crc32c_register.proofs.step_bits.Goals as goal
 
--- src/lib.rt:16:5
-pub loop-left-preserved : goal.loop-left-preserved
-loop-left-preserved c =
-    steps_turn _ _ _ c.loop-left-test.true c.step_bit-r.ensures ∙ c.loop-left.invariant
+pub loop-init : goal.loop-init
+unfolding step_bits
+loop-init c = refl
 
--- src/lib.rt:11:1
-pub returns : goal.returns
-returns c = sym (steps_end _ _ c.loop-left-test.false) ∙ c.loop-left.invariant
+pub loop-preserved : goal.loop-preserved
+unfolding step_bits
+loop-preserved c =
+    c.step_bit-r.ensures ∙ ap step_bit c.loop.invariant ∙ sym (step_bits_add c.loop.counter 1 c.args.register)

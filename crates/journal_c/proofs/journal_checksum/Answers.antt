@@ -7,7 +7,7 @@ use Rattle.journal_c.proofs.journal_checksum.Goals as goal
 
 pub returns-then-out-lt32 : goal.returns-then-out-lt32
 returns-then-out-lt32 c =
-    let told = no_room c.args.s.now c.args.out.now _ c.if-out-lt32.true c.number.ensures in
+    let told = no_room c.args.s.now c.args.out.now _ c.if-out-lt32.true c.into.ensures in
     record { value = told.0; out_new = told.1 }
 
 pub returns : goal.returns

@@ -1,24 +1,24 @@
--- `journal_c::journal_range` meets its contract: the range's answer, as numbers.
--- Assumes nothing.
-use mathlib.Core.Path.{sym, ◌∙◌}
+-- `journal_c::journal_range` meets its contract: the totals are those of the list that was read. Assumes nothing.
+use mathlib.Core.Path.{sym, ap, ◌∙◌}
 use mathlib.Core.List.{◌++◌}
-use Rattle.journal_c.proofs.Totals.{unread, no_room, room}
+use Rattle.record_words.specs.Calls.{code_of}
+use Rattle.journal_c.specs.Numbers.{output_after}
+use Rattle.journal_c.proofs.Totals.{unread, read}
 use Rattle.journal_c.proofs.journal_range.Goals as goal
 
-pub returns-then-totals-lt2 : goal.returns-then-totals-lt2
-returns-then-totals-lt2 c =
-    let told = no_room (c.args.front.now ++ c.args.back.now) c.args.totals.now _ _
-    (sym c.range_in-read.ensures
-    ∙ c.in-Read.is) _ c.if-totals-lt2.true c.number-then-totals-lt2.ensures in
-    record { value = told.0; totals_new = told.1 }
+pub returns-in-Some : goal.returns-in-Some
+returns-in-Some c =
+    let a = c.args in
+    let is = read (a.front.now ++ a.back.now) a.totals.now c.in-Some.range
+    (sym c.in-Some.is ∙ c.range_in.ensures) in record {
+      value = c.reply.ensures.value ∙ ap code_of (sym is);
+      totals_new = c.reply.ensures.answer_new ∙ ap (output_after a.totals.now) (sym is);
+    }
 
-pub returns-in-Unreadable : goal.returns-in-Unreadable
-returns-in-Unreadable c =
-    let told = unread (c.args.front.now ++ c.args.back.now) c.args.totals.now _
-    (sym c.range_in-read.ensures ∙ c.in-Unreadable.is) c.number.ensures in
-    record { value = told.0; totals_new = told.1 }
-
-pub returns-else-totals-lt2 : goal.returns-else-totals-lt2
-returns-else-totals-lt2 c =
-    let told = room (c.args.front.now ++ c.args.back.now) c.args.totals.now _ _
-    (sym c.range_in-read.ensures ∙ c.in-Read.is) c.if-totals-lt2.false in record { value = told.0; totals_new = told.1 }
+pub returns-in-None : goal.returns-in-None
+returns-in-None c =
+    let a = c.args in
+    let is = unread (a.front.now ++ a.back.now) a.totals.now (sym c.in-None.is ∙ c.range_in.ensures) in record {
+      value = c.into.ensures ∙ ap code_of (sym is);
+      totals_new = ap (output_after a.totals.now) (sym is);
+    }

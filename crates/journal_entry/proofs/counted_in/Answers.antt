@@ -1,64 +1,71 @@
 -- `counted_in` meets its contract: what is left to be read ends where all of it ends (`Walking`).
 -- Assumes nothing.
-use Prim.Native.Nat.{ℕ}
-use mathlib.Core.List.{List, ◌++◌}
+use Prim.Native.Nat.{ℕ, ◌+◌, ◌-◌}
+use mathlib.Core.List.{List}
 use mathlib.Core.Path.{◌≡◌, sym, ◌∙◌}
 use native.Mathlib.Omega.{arith}
-use lib.ListN.{length-append}
 use Rattle.journal_entry.specs.Places.{is_clone_kind}
 use Rattle.journal_entry.proofs.Walks.{walk_back, walk_outside, walk_starts, walk_few, walk_more}
 use Rattle.journal_entry.proofs.Walks.{walk_stops, walk_ends}
 use Rattle.journal_entry.proofs.counted_in.Goals as goal
 use Rattle.journal_entry.proofs.counted_in.Goals.{Start}
+use Rattle.journal_entry.proofs.counted_in.Given.{Over}
 
-abbrev joined : Start → List ℕ
-joined c = c.args.a.now ++ c.args.b.now
+abbrev read : (g : Over) → Start g → List ℕ
+read g c = g.S.ByteSequence.bytes c.args.s.now
 
 pub returns-then-end-at : goal.returns-then-end-at
-returns-then-end-at c =
-    walk_back (joined (goal.at.returns-then-end-at c).Start) c.args.at c.args.end c.args.count c.if-end-at.true
+returns-then-end-at g c =
+    walk_back (read g (goal.at.returns-then-end-at g c).Start) c.args.at c.args.end c.args.count c.if-end-at.true
 
-pub returns-then-a-b : goal.returns-then-a-b
-returns-then-a-b c =
-    walk_outside (joined (goal.at.returns-then-a-b c).Start) c.args.at c.args.end c.args.count
-    (omega (arith, length-append c.args.a.now c.args.b.now))
+pub returns-then-len-end : goal.returns-then-len-end
+returns-then-len-end g c =
+    walk_outside (read g (goal.at.returns-then-len-end g c).Start) c.args.at c.args.end c.args.count
+    (omega (arith, c.len.ensures))
 
-pub loop-left-init : goal.loop-left-init
-loop-left-init c =
-    walk_starts (joined (goal.at.loop-left-init c).Start) c.args.at c.args.end c.args.count (omega arith)
-    (omega (arith, length-append c.args.a.now c.args.b.now))
+pub loop-init : goal.loop-init
+loop-init g c =
+    let all : c.args.count - 0 ≡ c.args.count = omega arith in
+    rw all (walk_starts (read g (goal.at.loop-init g c).Start) c.args.at c.args.end c.args.count (omega arith)
+    (omega (arith, c.len.ensures)))
 
-pub returns-in-Unreadable : goal.returns-in-Unreadable
-returns-in-Unreadable c =
-    let l = c.loop-left in
-    walk_stops (joined (goal.at.returns-in-Unreadable c).Start) c.args.at c.args.end c.args.count l.here l.left
+pub returns-in_err-entry : goal.returns-in_err-entry
+returns-in_err-entry g c =
+    let l = c.loop in
+    c.from_residual.ensures
+    ∙ walk_stops (read g (goal.at.returns-in_err-entry g c).Start) c.args.at c.args.end c.args.count l.place
+    (c.args.count - l.counter)
     l.clones l.invariant
     (omega arith)
-    (sym c.entry_at-read.ensures ∙ c.in-Unreadable.is)
+    (sym c.entry_at.ensures ∙ c.in_err-entry.was)
 
 pub overflow_add-clones : goal.overflow_add-clones
-overflow_add-clones c =
-    let l = c.loop-left in
+overflow_add-clones g c =
+    let l = c.loop in
     omega (
       arith,
-      walk_few (joined (goal.at.overflow_add-clones c).Start) c.args.at c.args.end c.args.count l.here l.left
+      c.ranges.count,
+      walk_few (read g (goal.at.overflow_add-clones g c).Start) c.args.at c.args.end c.args.count l.place
+          (c.args.count - l.counter)
           l.clones l.invariant
           (omega arith)
-          (is_clone_kind c.in-Read.place.kind) c.clones_of-clones.result c.clones_of-clones.ensures,
+          (is_clone_kind c.in_ok-entry.entry.kind) c.clones-clones.result c.clones-clones.ensures,
     )
 
-pub loop-left-preserved : goal.loop-left-preserved
-loop-left-preserved c =
-    let l = c.loop-left in
-    walk_more (joined (goal.at.loop-left-preserved c).Start) c.args.at c.args.end c.args.count l.here l.left
+pub loop-preserved : goal.loop-preserved
+loop-preserved g c =
+    let l = c.loop in
+    let less : c.args.count - l.counter - 1 ≡ c.args.count - (l.counter + 1) = omega arith in
+    rw less at (walk_more (read g (goal.at.loop-preserved g c).Start) c.args.at c.args.end c.args.count l.place
+    (c.args.count - l.counter)
     l.clones l.invariant
     (omega arith)
-    c.in-Read.place (sym c.entry_at-read.ensures ∙ c.in-Read.is)
-    c.clones_of-clones.result c.clones_of-clones.ensures
+    c.in_ok-entry.entry (sym c.entry_at.ensures ∙ c.in_ok-entry.was)
+    c.clones-clones.result c.clones-clones.ensures)
 
 pub returns : goal.returns
-returns c =
-    let l = c.loop-left in
-    let none : l.left ≡ 0 = omega arith in
-    walk_ends (joined (goal.at.returns c).Start) c.args.at c.args.end c.args.count l.here l.left l.clones
-    l.invariant none
+returns g c =
+    let l = c.loop in
+    walk_ends (read g (goal.at.returns g c).Start) c.args.at c.args.end c.args.count l.place
+    (c.args.count - l.counter) l.clones
+    l.invariant (omega arith)

@@ -6,20 +6,28 @@ use mathlib.Core.Path.{◌≡◌, refl, sym, ap, ◌∙◌}
 use native.Mathlib.Omega.{arith}
 use lib.Dec.{leb}
 use Rattle.journal_entry.specs.Entry.{clone_mark, second_limit}
-use Rattle.journal_entry.specs.Places.{word_at}
-use Rattle.journal_entry.specs.declared.EntryRead.TheVariants.{Read}
+use Rattle.journal_entry.specs.Places.{word_at, kind_of, is_clone_kind}
+use mathlib.Core.Bool.{Bool, true, false}
+use Rattle.std.specs.Prelude.{Some}
 use Rattle.journal_entry.proofs.Options.{fit_yes, fit_no}
 use Rattle.journal_entry.proofs.Readable.{read_yes, read_no, first_at_lem, second_at_lem, place_at_lem}
 use Rattle.journal_entry.proofs.placed.Goals as goal
-use Rattle.journal_entry.proofs.placed.Goals.{After-kind_of, After-second_limit}
+use Rattle.journal_entry.proofs.placed.Goals.{Else-not-fits, After-second_limit}
 
 -- the most second bytes of an entry of its kind
 limit_got : (c : After-second_limit) (s : List ℕ) (at : ℕ) → c.args.word ≡ word_at s at
     → c.second_limit.result ≡ second_limit (leb 4096 (word_at s at))
-limit_got c s at is = c.second_limit.ensures ∙ ap (λ (w : ℕ). second_limit (leb 4096 w)) is
+limit_got c s at is = c.second_limit.ensures.value
+    ∙ ap (λ k. second_limit (is_clone_kind k)) c.of-kind.ensures
+    ∙ kind_clone (leb 4096 c.args.word)
+    ∙ ap (λ (w : ℕ). second_limit (leb 4096 w)) is
+  where
+    kind_clone : (t : Bool) → second_limit (is_clone_kind (kind_of t)) ≡ second_limit t
+    kind_clone true = refl
+    kind_clone false = refl
 
 -- both pieces lie before the end
-fit_got : (c : After-kind_of) → let x = c.args in
+fit_got : (c : Else-not-fits) → let x = c.args in
     x.at + 8 + (c.first_len-first.result + x.after) ≤ x.end
 fit_got c = fit_yes _ _ _ c.fits.ensures c.if-not-fits.false-raw
 
@@ -46,22 +54,22 @@ returns-then-not-fits c s inside is₁ is₂ =
     sym (read_no s x.at x.end (λ h. omega (arith, f, g, past)))
 
 pub overflow_add-result : goal.overflow_add-result
-overflow_add-result c = omega (arith, fit_got (goal.at.overflow_add-result c).After-kind_of)
+overflow_add-result c = omega (arith, fit_got (goal.at.overflow_add-result c).Else-not-fits)
 
 pub overflow_add-result-2 : goal.overflow_add-result-2
-overflow_add-result-2 c = omega (arith, fit_got (goal.at.overflow_add-result-2 c).After-kind_of)
+overflow_add-result-2 c = omega (arith, fit_got (goal.at.overflow_add-result-2 c).Else-not-fits)
 
 pub overflow_add-result-3 : goal.overflow_add-result-3
-overflow_add-result-3 c = omega (arith, fit_got (goal.at.overflow_add-result-3 c).After-kind_of)
+overflow_add-result-3 c = omega (arith, fit_got (goal.at.overflow_add-result-3 c).Else-not-fits)
 
 pub overflow_add-result-4 : goal.overflow_add-result-4
-overflow_add-result-4 c = omega (arith, fit_got (goal.at.overflow_add-result-4 c).After-kind_of)
+overflow_add-result-4 c = omega (arith, fit_got (goal.at.overflow_add-result-4 c).Else-not-fits)
 
 pub overflow_add-result-5 : goal.overflow_add-result-5
-overflow_add-result-5 c = omega (arith, fit_got (goal.at.overflow_add-result-5 c).After-kind_of)
+overflow_add-result-5 c = omega (arith, fit_got (goal.at.overflow_add-result-5 c).Else-not-fits)
 
 pub overflow_add-result-6 : goal.overflow_add-result-6
-overflow_add-result-6 c = omega (arith, fit_got (goal.at.overflow_add-result-6 c).After-kind_of)
+overflow_add-result-6 c = omega (arith, fit_got (goal.at.overflow_add-result-6 c).Else-not-fits)
 
 pub returns : goal.returns
 returns c s inside is₁ is₂ =
@@ -70,12 +78,12 @@ returns c s inside is₁ is₂ =
     let is₃ : x.after ≡ word_at s (x.at + 4 + c.first_len-first.result) =
     is₂ ∙ ap (λ (n : ℕ). word_at s (x.at + 4 + n)) (sym c.first_len-first.ensures) in
     let g = second_at_lem s x.at x.word is₁ _ c.first_len-first.ensures x.after is₃ in
-    let placed = place_at_lem s x.at x.word is₁ _ c.first_len-first.ensures _ c.kind_of.ensures x.after is₃ in
-    ap Read placed ∙ sym (read_yes s x.at x.end
+    let placed = place_at_lem s x.at x.word is₁ _ c.first_len-first.ensures _ c.of-kind.ensures x.after is₃ in
+    ap Some placed ∙ sym (read_yes s x.at x.end
     (omega (
       arith,
       f,
       g,
       limit_got (goal.at.returns c).After-second_limit s x.at is₁,
-      fit_got (goal.at.returns c).After-kind_of,
+      fit_got (goal.at.returns c).Else-not-fits,
     )))

@@ -1,22 +1,22 @@
--- `journal_image::copy_payloads` meets its contract: it writes the smaller of two numbers of blocks.
--- Assumes nothing.
-use mathlib.Core.Path.{◌≡◌, ap, ◌∙◌}
-use Prim.Native.Nat.{ℕ, ◌/◌, min}
+-- `journal_image::copy_payloads` meets its contract: each turn writes the next payload behind those written, and
+-- bytes behind it are as they were. Assumes nothing.
+use mathlib.Core.Path.{◌≡◌, ◌∙◌}
+use Prim.Native.Nat.{◌-◌, ◌+◌, ◌*◌}
 use native.Mathlib.Omega.{arith}
-use lib.ListN.{length}
-use Rattle.journal_image.specs.Image.{payloads_over}
+use lib.ListN.{take, drop}
+use Rattle.words.proofs.Slices.{tail}
+use Rattle.journal_image.proofs.Payloads.{none_over, one_more_over}
 use Rattle.journal_image.proofs.copy_payloads.Goals as goal
 
-pub returns-then-room-blocks : goal.returns-then-room-blocks
-returns-then-room-blocks c =
-    let s = c.args in
-    let room = length s.out.now / 4064 in
-    let least : room ≡ min (length s.image.now / 4096) room = omega arith in
-    c.copy_blocks.ensures ∙ ap (λ (k : ℕ). payloads_over k s.image.now s.out.now) least
+pub loop-k-init : goal.loop-k-init
+loop-k-init c = none_over c.args.image.now c.args.out.now
 
-pub returns-else-room-blocks : goal.returns-else-room-blocks
-returns-else-room-blocks c =
-    let s = c.args in
-    let blocks = length s.image.now / 4096 in
-    let least : blocks ≡ min blocks (length s.out.now / 4064) = omega arith in
-    c.copy_blocks-else-room-blocks.ensures ∙ ap (λ (k : ℕ). payloads_over k s.image.now s.out.now) least
+pub loop-k-preserved : goal.loop-k-preserved
+loop-k-preserved c =
+    let k = c.loop-k.k in
+    let block = take 4096 (drop (4096 * k) c.args.image.now) in
+    let block_size : 4096 * (k + 1) - 4096 * k ≡ 4096 = omega arith in
+    let payload_size : 4064 * (k + 1) - 4064 * k ≡ 4064 = omega arith in
+    let written = rw block_size at c.copy_from_slice.ensures.after ∙ tail 32 block in
+    rw payload_size
+    (one_more_over c.args.image.now c.args.out.now c.loop-k.out _ k (omega arith) c.loop-k.invariant written)

@@ -1,18 +1,14 @@
--- `journal_image::lowest_damaged` meets its contract: fewer blocks agree than there are, or all do.
--- Assumes nothing.
-use mathlib.Core.Path.{sym, ap}
-use Prim.Native.Nat.{◌/◌}
-use lib.ListN.{length}
-use Rattle.journal_image.specs.Damage.{damage_of}
-use Rattle.journal_image.proofs.Damaged.{lowest_some, lowest_none}
+-- `journal_image::lowest_damaged` meets its contract: the first chunk whose checksum differs is the lowest damaged
+-- block. Assumes nothing.
+use Rattle.std.proofs.Common.{rules, arith}
+use borrow.Author.Tests.{tests}
+use Rattle.journal_image.proofs.Found.{found}
 use Rattle.journal_image.proofs.lowest_damaged.Goals as goal
 
-pub returns-then-agreeing-blocks : goal.returns-then-agreeing-blocks
-returns-then-agreeing-blocks c =
-    let s = c.args.image.now in
-    sym (ap damage_of (lowest_some (length s / 4096) _ s c.agreeing_blocks-agreeing.ensures c.if-agreeing-blocks.true))
-
-pub returns-else-agreeing-blocks : goal.returns-else-agreeing-blocks
-returns-else-agreeing-blocks c =
-    let s = c.args.image.now in
-    sym (ap damage_of (lowest_none (length s / 4096) _ s c.agreeing_blocks-agreeing.ensures c.if-agreeing-blocks.false))
+pub returns : goal.returns
+returns c =
+    let (p, from, told) = c.position.ensures.runs in
+    let cut = c.chunks_exact.ensures in
+    let chunks = rw (from, cut.rest, cut.size) at (cut.runs p p.seen (rw (from, cut.size) (omega arith))) in
+    found _ _ p c.args.image.now chunks (λ a b g k. search rules) (λ x k. search (rules, tests))
+    (λ x k. search (rules, tests)) _ told

@@ -14,7 +14,7 @@ returns-then-n-room c =
     let f = c.args.src.now in
     let near : c.args.at + length f < length l = omega arith in record {
       value = sym (advance_near (length l) c.args.at (length f) near);
-      ring_new = put_one_run l c.args.at f c.copy_whole.new.dst c.copy_whole.ensures (omega arith);
+      ring_new = put_one_run l c.args.at f c.copy_from_slice.new.self c.copy_from_slice.ensures.after (omega arith);
       upper_bound = near;
     }
 
@@ -24,8 +24,8 @@ returns c =
     let f = c.args.src.now in
     let far : length l ≤ c.args.at + length f = omega arith in record {
       value = sym (advance_far (length l) c.args.at (length f) far ∙ omega arith);
-      ring_new = put_two_runs l c.args.at f c.copy_whole-2.new.dst c.copy_whole-3.new.dst c.requires.0
+      ring_new = put_two_runs l c.args.at f c.copy_from_slice-2.new.self c.copy_from_slice-3.new.self c.requires.0
           (omega arith) c.requires.1
-          c.copy_whole-2.ensures c.copy_whole-3.ensures;
+          c.copy_from_slice-2.ensures.after c.copy_from_slice-3.ensures.after;
       upper_bound = omega arith;
     }

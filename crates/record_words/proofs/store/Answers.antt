@@ -72,9 +72,11 @@ shape_of-words c = simp length-set
 pub returns : goal.returns
 returns c =
     simp (
-      c.flag_of.ensures,
-      c.blocks_of.ensures,
-      c.flag_of-2.ensures,
-      c.blocks_of-2.ensures,
+      c.is_some.ensures,
+      c.from.ensures,
+      c.unwrap_or.ensures,
+      c.is_some-2.ensures,
+      c.from-2.ensures,
+      c.unwrap_or-2.ensures,
     )
     (sets-eq (words_of c.args.j) c.args.words.now 0 c.requires)

@@ -1,24 +1,15 @@
--- `all_zero` meets its contract: the bytes passed are 0, so what is left of the test is the whole of it.
--- Assumes nothing.
-use mathlib.Core.Path.{refl, sym, ◌∙◌}
+-- `all_zero` meets its contract. Assumes nothing.
+use mathlib.Core.Path.{◌∙◌}
+use Rattle.std.specs.Prelude.{eqb}
 use borrow.Author.Rules.{rules}
-use Rattle.words.proofs.Zeros.{zero_more, zero_stop, zero_end}
+use borrow.Author.Tests.{tests}
+use Rattle.std.proofs.lemmas.Iterator.{YieldsList-from_slice}
+use Rattle.std.proofs.lemmas.Iterator.Search.{all_from_yields_List}
+use Rattle.words.proofs.Zeros.{list_all_zero}
 use Rattle.words.proofs.all_zero.Goals as goal
 
-pub loop-i-init : goal.loop-i-init
-loop-i-init c = (search rules, refl)
-
-pub returns-then-s-i-ne0 : goal.returns-then-s-i-ne0
-returns-then-s-i-ne0 c =
-    sym (zero_stop c.args.s.now c.loop-i.i c.loop-i-test.true c.if-s-i-ne0.true)
-    ∙ c.loop-i.invariant.1
-
-pub loop-i-preserved : goal.loop-i-preserved
-loop-i-preserved c = (
-  search rules,
-  sym (zero_more c.args.s.now c.loop-i.i c.loop-i-test.true c.if-s-i-ne0.false)
-      ∙ c.loop-i.invariant.1,
-)
-
 pub returns : goal.returns
-returns c = sym (zero_end c.args.s.now c.loop-i.i c.loop-i-test.false) ∙ c.loop-i.invariant.1
+returns c =
+    all_from_yields_List (λ x. eqb x 0) _ _ _ c.all.ensures.ran (YieldsList-from_slice c.args.s.now cc)
+    (λ x b q k. search (rules, tests))
+    ∙ list_all_zero c.args.s.now

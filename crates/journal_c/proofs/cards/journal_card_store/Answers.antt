@@ -1,51 +1,40 @@
--- `journal_c::cards::journal_card_store` meets its contract: without a word of answer the test alone, else the
--- card's. Assumes nothing.
-use mathlib.Core.Path.{refl, sym, ◌∙◌}
+-- `journal_c::cards::journal_card_store` meets its contract: without a word of answer the test alone, else the card's.
+-- Assumes nothing.
+use mathlib.Core.Path.{◌≡◌, refl, sym, ap, ◌∙◌}
 use Prim.Native.Nat.{◌/◌}
-use native.Mathlib.Omega.{arith}
 use lib.ListN.{length}
-use Rattle.refusals.specs.Outcome.{into}
-use Rattle.card.specs.Calls.{store_call, stored}
+use native.Mathlib.Omega.{arith}
+use Rattle.refusals.specs.Answers.{image_outcome_of}
+use Rattle.card.specs.Calls.{store_call}
 use Rattle.card.proofs.StoreLaws.{store_below}
 use Rattle.journal_c.specs.Numbers.{test_words}
-use Rattle.journal_c.proofs.Answering.{also}
-use Rattle.journal_c.proofs.CardCalls.{named_small, short_kept, long_changed, stored_keeps}
+use Rattle.journal_c.proofs.CardCalls.{named_small, named_any, short_kept, long_changed, stored_keeps}
 use Rattle.journal_c.proofs.cards.journal_card_store.Goals as goal
+use Rattle.journal_c.proofs.cards.journal_card_store.Goals.{In-Err, then-answer-lt1, else-answer-lt1}
 
-pub answer_stored-requires : goal.answer_stored-requires
-answer_stored-requires c =
-    let s = c.args in
-    named_small _ (length s.image.now / 4096) (omega (arith, c.well_formed)) λ number block e.
-    store_below s.n s.card.now s.image.now s.made number block (sym c.store_test.ensures ∙ e)
+told_is : (c : In-Err) → let a = c.args in
+    image_outcome_of c.if-answer-lt1.told ≡ store_call a.n a.card.now a.image.now a.made
+told_is c =
+    elim c.if-answer-lt1.branch [
+      | then-answer-lt1 w ↦ ap image_outcome_of w.told-is ∙ w.store_test-told.ensures
+      | else-answer-lt1 w ↦ ap image_outcome_of w.told-is ∙ w.store-told.ensures.result_value
+    ]
 
-pub returns-then-answer-lt1 : goal.returns-then-answer-lt1
-returns-then-answer-lt1 c =
-    let s = c.args in
-    let call = store_call s.n s.card.now s.image.now s.made in
-    let h = also (into test_words) _ call s.answer.now _ _ c.store_test.ensures
-    (c.answer_stored.ensures.value, c.answer_stored.ensures.answer_new) in record {
-      value = h.0;
-      card_new = short_kept test_words (λ a. refl) call s.answer.now
-          (stored s.n s.card.now s.image.now s.made) s.card.now
-          c.if-answer-lt1.true;
-      answer_new = h.1;
-    }
+pub number-requires : goal.number-requires
+number-requires c =
+    let a = c.args in
+    named_small _ (length a.image.now / 4096) (omega (arith, c.well_formed)) λ number block e.
+    store_below a.n a.card.now a.image.now a.made number block
+    (sym (told_is c) ∙ ap image_outcome_of c.in-Err.is ∙ named_any c.in-Err.why number block e)
 
-pub answer_stored-requires-2 : goal.answer_stored-requires-2
-answer_stored-requires-2 c =
-    let s = c.args in
-    named_small _ (length s.image.now / 4096) (omega (arith, c.well_formed)) λ number block e.
-    store_below s.n s.card.now s.image.now s.made number block (sym c.store.ensures.result_value ∙ e)
-
-pub returns : goal.returns
-returns c =
-    let s = c.args in
-    let call = store_call s.n s.card.now s.image.now s.made in
-    let h = also (into test_words) _ call s.answer.now _ _ c.store.ensures.result_value
-    (c.answer_stored-2.ensures.value, c.answer_stored-2.ensures.answer_new) in record {
-      value = h.0;
-      card_new = c.store.ensures.card_new
-          ∙ long_changed test_words (λ a. refl) call s.answer.now _ s.card.now
-          c.if-answer-lt1.false (stored_keeps s.n s.card.now s.image.now s.made);
-      answer_new = h.1;
-    }
+pub returns-in-Err-clause-card_new : goal.returns-in-Err-clause-card_new
+returns-in-Err-clause-card_new c =
+    let a = c.args in
+    let call = store_call a.n a.card.now a.image.now a.made in
+    elim c.if-answer-lt1.branch [
+      | then-answer-lt1 w ↦ w.card-is
+          ∙ short_kept test_words (λ n. refl) call a.answer.now _ a.card.now w.if-answer-lt1.true
+      | else-answer-lt1 w ↦ w.card-is ∙ w.store-told.ensures.card_new
+          ∙ long_changed test_words (λ n. refl) call a.answer.now _ a.card.now w.if-answer-lt1.false
+          (stored_keeps a.n a.card.now a.image.now a.made)
+    ]

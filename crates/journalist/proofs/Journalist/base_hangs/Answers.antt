@@ -15,7 +15,7 @@ use Rattle.journalist.proofs.Counts.{range_facts, start_fact, start_true, side_m
 use Rattle.journalist.proofs.Counts.{tests_all, tests_fail, test_fails, blocks_fit, ListsHang, lists_fit}
 use Rattle.journalist.proofs.Counts.{lists_told}
 use Rattle.journalist.proofs.Journalist.base_hangs.Goals as goal
-use Rattle.journalist.proofs.Journalist.base_hangs.Goals.{After-larger-2, Else-not-both_within, Else-not-both_within-2}
+use Rattle.journalist.proofs.Journalist.base_hangs.Goals.{After-max-2, Else-not-both_within, Else-not-both_within-2}
 use Rattle.journalist.proofs.Journalist.base_hangs.Goals.{Else-not-in_range, Else-not-lists_hang}
 
 ranged_so : (c : Else-not-in_range) → in_range c.args.self.blocks c.args.self.ring ≡ true
@@ -43,18 +43,18 @@ lists_so c =
     (passed c.lists_hang.ensures c.if-not-lists_hang.false-raw)
 
 -- the larger side, by both
-sides : (c : After-larger-2) → let j = c.args.self in
-    c.larger-2.result ≡ max (side_blocks j.front) (side_blocks j.back)
-sides c = c.larger-2.ensures ∙ ap₂ max c.side_blocks.ensures c.side_blocks-2.ensures
+sides : (c : After-max-2) → let j = c.args.self in
+    c.max-2.result ≡ max (side_blocks j.front) (side_blocks j.back)
+sides c = c.max-2.ensures ∙ ap₂ max c.unwrap_or.ensures c.unwrap_or-2.ensures
 
 pub returns-then-not-in_range : goal.returns-then-not-in_range
 returns-then-not-in_range c =
     test_fails _ _ (λ t. t.ranged) (failed c.in_range.ensures c.if-not-in_range.true-raw)
 
-pub returns-then-larger-self : goal.returns-then-larger-self
-returns-then-larger-self c =
+pub returns-then-max-self : goal.returns-then-max-self
+returns-then-max-self c =
     let j = c.args.self in
-    tests_fail j (λ t. omega (arith, start_fact j.ring j.start t.started, c.larger.ensures, c.if-larger-self.true))
+    tests_fail j (λ t. omega (arith, start_fact j.ring j.start t.started, c.max.ensures, c.if-max-self.true))
 
 pub returns-then-not-both_within : goal.returns-then-not-both_within
 returns-then-not-both_within c =
@@ -80,13 +80,13 @@ pub returns-then-not-counts_hang : goal.returns-then-not-counts_hang
 returns-then-not-counts_hang c =
     test_fails _ _ (λ t. t.replay) (failed c.counts_hang.ensures c.if-not-counts_hang.true-raw)
 
-pub returns-then-self-larger : goal.returns-then-self-larger
-returns-then-self-larger c =
+pub returns-then-self-max : goal.returns-then-self-max
+returns-then-self-max c =
     let j = c.args.self in
     tests_fail j (λ t. omega (
       arith,
-      sides (goal.at.returns-then-self-larger c).After-larger-2,
-      c.if-self-larger.true,
+      sides (goal.at.returns-then-self-max c).After-max-2,
+      c.if-self-max.true,
       side_most j.blocks j.front t.front,
       side_most j.blocks j.back t.back,
     ))
@@ -111,16 +111,16 @@ returns c =
     (record {
       ranged = ranged_so (goal.at.returns c).Else-not-in_range;
       started =
-          start_true j.ring j.start (omega (arith, c.larger.ensures, c.if-larger-self.false));
+          start_true j.ring j.start (omega (arith, c.max.ensures, c.if-max-self.false));
       filled = passed c.both_within.ensures c.if-not-both_within.false-raw;
       region = lists.region;
       frozen = lists.frozen;
       memory = lists.memory;
       replay = passed c.counts_hang.ensures c.if-not-counts_hang.false-raw;
       front = side_hangs_lem j.blocks j.front
-          (omega (arith, sides (goal.at.returns c).After-larger-2, c.if-self-larger.false));
+          (omega (arith, sides (goal.at.returns c).After-max-2, c.if-self-max.false));
       back = side_hangs_lem j.blocks j.back
-          (omega (arith, sides (goal.at.returns c).After-larger-2, c.if-self-larger.false));
+          (omega (arith, sides (goal.at.returns c).After-max-2, c.if-self-max.false));
       clones = t;
     }))
     (λ h. (tests j h).clones)

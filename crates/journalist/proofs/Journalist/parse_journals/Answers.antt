@@ -1,69 +1,35 @@
--- `parse_journals` meets its contract: the recorded blocks lie in the lent sides, and each answer of `load` is a
--- row of `parse_journals_call`. Assumes nothing.
-use mathlib.Core.Bool.{true}
-use mathlib.Core.Path.{◌≡◌, sym, ◌∙◌}
+-- `parse_journals` meets its contract: what `load` answers of the recorded blocks of both sides, or 2.
+-- Assumes nothing.
+use mathlib.Core.Path.{◌≡◌, sym, ap, ◌∙◌}
 use Prim.Native.Nat.{◌*◌, ◌-◌}
 use native.Mathlib.Omega.{arith}
-use Rattle.journal_range.specs.declared.LoadRead.{LoadRead}
-use Rattle.journal_range.specs.declared.LoadRead.TheVariants.{Loaded, Unreadable, Short}
-use Rattle.refusals.proofs.Tests.{passed, failed}
-use Rattle.journalist.specs.Recovery.{sides_hang}
-use Rattle.journalist.proofs.RecoveryLaws.{SidesHang, sides_facts}
-use Rattle.journalist.proofs.Recovering.{LoadAnswered, record_of, load_uncounted, load_told}
+use Rattle.std.proofs.lemmas.Result.{err_from_is_err_and}
+use Rattle.refusals.specs.Outcome.{Outcome, gives, into}
+use Rattle.refusals.specs.Answers.{outcome_of}
+use Rattle.refusals.proofs.Tests.{passed}
+use Rattle.journal_range.specs.declared.RangeTotals.{RangeTotals}
+use Rattle.journalist.proofs.Recovering.{loaded, LoadAnswered, load_told}
 use Rattle.journalist.proofs.Journalist.parse_journals.Goals as goal
-use Rattle.journalist.proofs.Journalist.parse_journals.Goals.{After-load-read, Else-not-sides_hang}
+use Rattle.journalist.proofs.Journalist.parse_journals.Goals.{After-load}
 
-hangs : (c : Else-not-sides_hang) → sides_hang c.args.self c.args.front.now c.args.back.now
-    ≡ true
-hangs c = passed c.sides_hang.ensures c.if-not-sides_hang.false-raw
-
--- the sides lie in what is lent
-lent : (c : Else-not-sides_hang) → SidesHang c.args.self c.args.front.now c.args.back.now
-lent c = sides_facts _ _ _ (hangs c)
-
-answered : (c : After-load-read) (r : LoadRead) → c.load-read.result ≡ r
-    → LoadAnswered c.args.self c.args.front.now
-    c.args.back.now
-    c.args.replay.now (record_of c.args.self r) c.load-read.new.replay
-answered c r e =
+answered : (c : After-load) (o : Outcome RangeTotals) → o ≡ outcome_of c.load.result
+    → LoadAnswered c.args.self c.args.front.now c.args.back.now c.args.replay.now (into (loaded c.args.self) o)
+    c.load.new.replay
+answered c o e =
     let a = c.args in
-    load_told a.self a.front.now a.back.now a.replay.now (4064 * c.side_blocks-f.result - 0)
-    (4064 * c.side_blocks-b.result - 0) (passed c.sides_hang.ensures c.if-not-sides_hang.false-raw)
-    (omega (arith, c.side_blocks-f.ensures)) (omega (arith, c.side_blocks-b.ensures)) r
-    (sym e ∙ c.load-read.ensures.answer) _ c.load-read.ensures.buffer
+    load_told a.self a.front.now a.back.now a.replay.now (4064 * c.unwrap_or-f.result - 0)
+    (4064 * c.unwrap_or-b.result - 0) (passed c.sides_hang.ensures c.if-not-sides_hang.false-raw)
+    (omega (arith, c.unwrap_or-f.ensures)) (omega (arith, c.unwrap_or-b.ensures)) o
+    (e ∙ c.load.ensures.answer) _ c.load.ensures.buffer
 
-pub returns-then-not-sides_hang : goal.returns-then-not-sides_hang
-returns-then-not-sides_hang c =
-    let a = c.args in let told = load_uncounted a.self a.front.now a.back.now a.replay.now
-    (failed c.sides_hang.ensures c.if-not-sides_hang.true-raw) in record { result_value = told.0; replay_new = told.1 }
+pub returns-in_err-loaded : goal.returns-in_err-loaded
+returns-in_err-loaded c =
+    let p = err_from_is_err_and c.from_residual.result c.from_residual.ensures.1 in
+    let told = answered (goal.at.returns-in_err-loaded c).After-load _ (sym (ap outcome_of c.in_err-loaded.was)) in
+    record { result_value = rw (p.1, p.2) told.0; replay_new = told.1 }
 
-pub overflow_mul-f : goal.overflow_mul-f
-overflow_mul-f c =
-    omega (arith, lent (goal.at.overflow_mul-f c).Else-not-sides_hang, c.side_blocks-f.ensures)
-
-pub overflow_mul-b : goal.overflow_mul-b
-overflow_mul-b c =
-    omega (arith, lent (goal.at.overflow_mul-b c).Else-not-sides_hang, c.side_blocks-b.ensures)
-
-pub slice_bounds-load-end : goal.slice_bounds-load-end
-slice_bounds-load-end c =
-    omega (arith, lent (goal.at.slice_bounds-load-end c).Else-not-sides_hang, c.side_blocks-f.ensures)
-
-pub slice_bounds-load-end-2 : goal.slice_bounds-load-end-2
-slice_bounds-load-end-2 c =
-    omega (arith, lent (goal.at.slice_bounds-load-end-2 c).Else-not-sides_hang, c.side_blocks-b.ensures)
-
-pub returns-in-Unreadable : goal.returns-in-Unreadable
-returns-in-Unreadable c =
-    let told = answered (goal.at.returns-in-Unreadable c).After-load-read Unreadable c.in-Unreadable.is in
+pub returns : goal.returns
+returns c =
+    let told = answered (goal.at.returns c).After-load (gives c.in_ok-loaded.loaded)
+    (sym (ap outcome_of c.in_ok-loaded.was)) in
     record { result_value = told.0; replay_new = told.1 }
-
-pub returns-in-Short : goal.returns-in-Short
-returns-in-Short c =
-    let told = answered (goal.at.returns-in-Short c).After-load-read Short c.in-Short.is in
-    record { result_value = told.0; replay_new = told.1 }
-
-pub returns-in-Loaded : goal.returns-in-Loaded
-returns-in-Loaded c =
-    let t = answered (goal.at.returns-in-Loaded c).After-load-read (Loaded c.in-Loaded.many c.in-Loaded.long)
-    c.in-Loaded.is in record { result_value = simp (sym t.0); replay_new = t.1 }

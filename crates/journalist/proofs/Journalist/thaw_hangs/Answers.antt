@@ -25,14 +25,6 @@ pub returns-then-self-3 : goal.returns-then-self-3
 returns-then-self-3 c =
     last_fails c.args.self c.requires λ l. omega (arith, l.blocks_in, c.if-self-3.true)
 
-pub thawed-thawed-requires : goal.thawed-thawed-requires
-thawed-thawed-requires c =
-    record {
-      self_value = c.requires;
-      entries_le_entries = (c.if-self.false, c.if-self-2.false);
-      blocks_le_held = c.if-self-3.false;
-    }
-
 pub lists_hang-requires : goal.lists_hang-requires
 lists_hang-requires c =
     let j = c.args.self in

@@ -4,13 +4,13 @@ use mathlib.Core.Path.{◌≡◌}
 use mathlib.Core.List.{◌++◌}
 use Prim.Native.Nat.{◌+◌, ◌-◌, ◌≤◌}
 use lib.ListN.{length, take, drop}
-use Rattle.marshalling.specs.Runs.{Takes}
+use Rattle.marshalling.specs.Forms.{forms_bytes, FormsTake}
 use Rattle.marshalling.proofs.fill.fill_runs.Given as goal
 
 abbrev pub invariant-loop-filled : goal.invariant-loop-filled
 invariant-loop-filled l = (l.filled ≤ l.end) × (length l.dst ≡ length l.initial.dst) × (l.runs ≤ l.filled)
-    × (l.dst ≡ take l.filled (drop l.done (take l.n (drop l.at (l.a ++ l.b)))) ++ drop l.filled l.initial.dst)
-    × Takes l.a l.b l.at l.n l.done (l.done + l.filled) l.runs
+    × (l.dst ≡ take l.filled (drop l.done (forms_bytes l.forms)) ++ drop l.filled l.initial.dst)
+    × FormsTake l.forms l.done (l.done + l.filled) l.runs
 
 abbrev pub decreases-loop-filled : goal.decreases-loop-filled
 decreases-loop-filled l = l.end - l.filled

@@ -4,9 +4,8 @@ use mathlib.Core.Path.{◌≡◌, refl}
 use mathlib.Core.List.{◌++◌}
 use Prim.Native.Nat.{◌+◌, ◌-◌, ◌*◌}
 use native.Mathlib.Omega.{arith}
-use borrow.Author.Rules.{rules}
-use lib.ListN.{take, drop}
 use Rattle.marshalling.specs.Marshall.{with_checksums}
+use Rattle.marshalling.specs.Forms.{forms_bytes}
 use Rattle.marshalling.proofs.Writing.{image_more}
 use Rattle.marshalling.proofs.Runs.{takes_none, takes_then}
 use Rattle.marshalling.proofs.image.write_blocks.Goals as goal
@@ -14,28 +13,23 @@ use Rattle.marshalling.proofs.image.write_blocks.Goals as goal
 pub loop-k-init : goal.loop-k-init
 unfolding with_checksums
 loop-k-init c =
-    let a = c.args in
-    (omega arith, refl, omega arith, refl, takes_none a.a.now a.b.now a.at a.n 0)
+    let f = c.args.forms.now in
+    (omega arith, refl, takes_none f.ring.front.now f.ring.back.now f.at f.len 0)
 
 pub loop-k-preserved : goal.loop-k-preserved
 loop-k-preserved c =
     let a = c.args in
+    let f = a.forms.now in
     let next : 4064 * (c.loop-k.k + 1) - 8 ≡ 4064 * c.loop-k.k + 4064 - 8 = omega arith in (
-      search rules,
-      search rules,
       omega arith,
-      image_more (a.h.now ++ take a.n (drop a.at (a.a.now ++ a.b.now))) a.out.now c.loop-k.out
-          c.write_block-runs.new.out a.blocks c.loop-k.k (omega arith) c.loop-k.invariant.3
-          c.write_block-runs.ensures.out_new,
+      image_more (a.header.now ++ forms_bytes f) a.out.now c.loop-k.out c.write_block-runs.new.out a.blocks c.loop-k.k
+          (omega arith) c.loop-k.invariant.1 c.write_block-runs.ensures.out_new,
       rw next
-          (takes_then a.a.now a.b.now a.at a.n _ _ _ _ _ c.loop-k.invariant.4
+          (takes_then f.ring.front.now f.ring.back.now f.at f.len _ _ _ _ _ c.loop-k.invariant.2
           c.write_block-runs.ensures.takes),
     )
-
-pub shape_of-out : goal.shape_of-out
-shape_of-out c = c.loop-k.invariant.1
 
 pub returns : goal.returns
 returns c =
     let e : c.loop-k.k ≡ c.args.blocks = omega arith in
-    let all = rw e at c.loop-k.invariant in record { out_new = all.3; takes = all.4 }
+    let all = rw e at c.loop-k.invariant in record { out_new = all.1; takes = all.2 }

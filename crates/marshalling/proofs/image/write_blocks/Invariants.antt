@@ -3,17 +3,14 @@
 use mathlib.Core.Path.{◌≡◌}
 use mathlib.Core.List.{◌++◌}
 use Prim.Native.Nat.{◌-◌, ◌*◌, ◌≤◌}
-use lib.ListN.{length, take, drop}
+use lib.ListN.{drop}
 use Rattle.marshalling.specs.Fill.{padded}
-use Rattle.marshalling.specs.Runs.{Takes}
+use Rattle.marshalling.specs.Forms.{forms_bytes, FormsTake}
 use Rattle.marshalling.proofs.Images.{image_to}
 use Rattle.marshalling.proofs.image.write_blocks.Given as goal
 
 abbrev pub invariant-loop-k : goal.invariant-loop-k
-invariant-loop-k l = (l.k ≤ l.blocks) × (length l.out ≡ length l.initial.out) × (l.runs ≤ 4064 * l.k)
-    × (l.out ≡ image_to (padded (4064 * l.blocks) (l.h ++ take l.n (drop l.at (l.a ++ l.b)))) l.k
+invariant-loop-k l = (l.runs ≤ 4064 * l.k)
+    × (l.out ≡ image_to (padded (4064 * l.blocks) (l.header ++ forms_bytes l.forms)) l.k
     ++ drop (4096 * l.k) l.initial.out)
-    × Takes l.a l.b l.at l.n 0 (4064 * l.k - 8) l.runs
-
-abbrev pub decreases-loop-k : goal.decreases-loop-k
-decreases-loop-k l = l.blocks - l.k
+    × FormsTake l.forms 0 (4064 * l.k - 8) l.runs

@@ -1,12 +1,12 @@
 -- `top_entry` meets its contract: each return is the row of `top_then` that its tests lead to.
 -- Assumes nothing.
 use mathlib.Core.Bool.{true, not}
-use mathlib.Core.Path.{◌≡◌, sym, ap}
+use mathlib.Core.Path.{◌≡◌, refl, sym, ap}
 use native.Mathlib.Omega.{arith}
 use borrow.Author.Tests.{eq-eqb}
 use Rattle.refusals.proofs.Tests.{passed, failed}
 use Rattle.replay_cursor.specs.Cursor.{lies_in}
-use Rattle.replay_cursor.proofs.Rows.{place_exactly, lies_facts, place_unread, place_read}
+use Rattle.replay_cursor.proofs.Rows.{place_exactly, lies_facts, place_given}
 use Rattle.replay_cursor.proofs.Replay.top_entry.Goals as goal
 use Rattle.replay_cursor.proofs.Replay.top_entry.Goals.{Else-not-lies_in}
 
@@ -28,13 +28,7 @@ overflow_add-end c =
     let x = c.args in
     omega (arith, lies_facts x.self x.replay.now (lies (goal.at.overflow_add-end c).Else-not-lies_in))
 
-pub returns-in-Unreadable : goal.returns-in-Unreadable
-returns-in-Unreadable c =
-    place_unread _ _ (lies (goal.at.returns-in-Unreadable c).Else-not-lies_in) c.if-self-eq0.false _
-    c.entry_at-read.ensures
-    c.in-Unreadable.is
-
-pub returns-in-Read : goal.returns-in-Read
-returns-in-Read c =
-    place_read _ _ (lies (goal.at.returns-in-Read c).Else-not-lies_in) c.if-self-eq0.false _ _ c.entry_at-read.ensures
-    c.in-Read.is
+pub returns : goal.returns
+returns c =
+    rw c.ok_or.ensures.value
+    (place_given _ _ (lies (goal.at.returns c).Else-not-lies_in) c.if-self-eq0.false _ _ refl c.entry_at-read.ensures)

@@ -1,9 +1,0 @@
--- `Journalist::last_freeze` meets its contract: each return is one case of `last_freeze`. Assumes nothing.
-use borrow.Author.Tests.{eq-eqb, ne_eqb}
-use Rattle.journalist.proofs.Journalist.last_freeze.Goals as goal
-
-pub returns-then-self-eq0 : goal.returns-then-self-eq0
-returns-then-self-eq0 c = simp (eq-eqb _ _ c.if-self-eq0.true)
-
-pub returns : goal.returns
-returns c = simp (ne_eqb _ _ c.if-self-eq0.false, c.requires)
