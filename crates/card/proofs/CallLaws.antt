@@ -5,8 +5,7 @@ use mathlib.Core.List.{List, ◌++◌}
 use Rattle.std.specs.Prelude.{None, Some, Ok, Err}
 use Prim.Native.Nat.{ℕ, ◌+◌, ◌*◌, ◌≤◌, ◌<◌}
 use native.Mathlib.Omega.{arith}
-use borrow.Author.Tests.{le-leb, lt-leb, lt-ltb, le-ltb, leb-true, eqb-true}
-use lib.Dec.{leb, ltb}
+use borrow.Author.Tests.{le-leb, lt-leb, leb-true, eqb-true}
 use lib.ListN.{length, take, drop}
 use Rattle.refusals.specs.Outcome.{Outcome, gives, refuses, refuses_block, require◌else◌then◌}
 use Rattle.refusals.proofs.Tests.{impossible}
@@ -17,7 +16,7 @@ use Rattle.refusals.specs.declared.Refusal.TheVariants.{OutputTooShort}
 use Rattle.refusals.proofs.Rows.{undamaged_given}
 use Rattle.refusals.proofs.Outcomes.{refuses_same, require_told}
 use Rattle.disk_layout.specs.DiskLayout.{blocks_in_range}
-use Rattle.disk_layout.specs.JournalInterval.{valid_journal_interval}
+use Rattle.disk_layout.specs.JournalInterval.{interval, valid_journal_interval}
 use Rattle.disk_layout.proofs.Intervals.{range_facts}
 use Rattle.journal_image.specs.Image.{same_bytes, payloads_over, lowest_damaged}
 use Rattle.journal_image.proofs.Damaged.{lowest_told}
@@ -50,16 +49,12 @@ module _ (n : ℕ) (card : List ℕ) where
     unfolding formed
     formed_other h = rw (sized, ← s, ← l, h)
 
-    module _ (same : same_bytes (take 4096 card) (superblock start len) ≡ true) where
-      pub formed_within : start < n → leb len n ≡ formed n card
-      unfolding formed valid_journal_interval
-      formed_within h = rw (sized, ← s, ← l, same, lt-ltb start n h)
+    pub formed_named : same_bytes (take 4096 card) (superblock start len) ≡ true
+        → valid_journal_interval n (interval start len) ≡ formed n card
+    unfolding formed
+    formed_named h = rw (sized, ← s, ← l, h)
 
-      pub formed_past : n ≤ start → ltb start n ≡ formed n card
-      unfolding formed valid_journal_interval
-      formed_past h = rw (sized, ← s, ← l, same, le-ltb start n h)
-
-pub ruleset formed_rows = (formed_other, formed_within, formed_past, sized_long)
+pub ruleset formed_rows = (formed_other, formed_named, sized_long)
 
 -- ROWS 1 AND 18: what fails them is every call's answer
 

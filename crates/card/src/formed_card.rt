@@ -21,7 +21,7 @@ use crate::super_block::LiveInterval;
 use disk_layout::blocks_in_range;
 use image_range::Image;
 use journal_entry::{ByteSequence, Joined};
-use journal_image::copy_payloads;
+use journal_image::{BLOCK, PAYLOAD, copy_payloads};
 use journal_range::range_in;
 use journal_ring::advance;
 use refusals::{ImageRefusal, Refusal};
@@ -34,7 +34,7 @@ pub(crate) fn sized(n: u64, card: &[u8]) -> Result<(), Refusal>
     if !blocks_in_range(n) {
         return Err(Refusal::SizeOutOfRange);
     }
-    if card.len() != (2 + n as usize) * 4096 {
+    if card.len() != (2 + n as usize) * BLOCK {
         return Err(Refusal::CardUnformed);
     }
     Ok(())
@@ -47,10 +47,7 @@ fn is_formed(n: u64, card: &[u8]) -> bool
     ensures { result ≡ formed n card.now }
 {
     let live = LiveInterval::of(card);
-    if !live.is_named_by(&card[0..4096]) {
-        return false;
-    }
-    (live.start as u64) < n && live.len as u64 <= n
+    live.is_named_by(&card[0..BLOCK]) && live.is_valid(n)
 }
 
 // A card of n blocks.
@@ -91,8 +88,8 @@ impl<'a> FormedCard<'a> {
         ensures payload { image_payload (joined result.0) ≡ live_payload self.now.bytes.now }
     {
         let LiveInterval { start, len } = LiveInterval::of(self.bytes);
-        let at = 8192 + 4096 * (start as usize);
-        let size = 4096 * (len as usize);
+        let at = 8192 + BLOCK * (start as usize);
+        let size = BLOCK * (len as usize);
         let in_front = size.min(self.bytes.len() - at);
         let in_back = size - in_front;
         Image(Joined {
@@ -108,7 +105,7 @@ impl<'a> FormedCard<'a> {
             ≡ payloads_over (live_len self.now.bytes.now) (live_image self.now.bytes.now) out.old }
     {
         let Joined { front, back } = self.live().0;
-        let at = 4064 * (front.len() / 4096);
+        let at = PAYLOAD * (front.len() / BLOCK);
         copy_payloads(front, out);
         copy_payloads(back, &mut out[at..]);
     }
@@ -119,7 +116,7 @@ impl<'a> FormedCard<'a> {
         ensures { ComesTo (find_call self.now.n self.now.bytes.now) room result }
     {
         let blocks = LiveInterval::of(self.bytes).len as usize;
-        if room < 4064 * blocks {
+        if room < PAYLOAD * blocks {
             return Err(Refusal::OutputTooShort.into());
         }
         if let Some(block) = self.live().lowest_damaged() {
@@ -140,13 +137,13 @@ impl<'a> FormedCard<'a> {
             (live_len self.now.bytes.now + image_blocks image.now)) }
     {
         let live = LiveInterval::of(self.bytes);
-        let blocks = image.len() / 4096;
+        let blocks = image.len() / BLOCK;
         if made < blocks {
             let behind = live.len as usize + made;
             let block = advance(self.n as usize, live.start as usize, behind);
             return NextStore::Block {
-                at: 8192 + 4096 * block,
-                bytes: &image[4096 * made..4096 * made + 4096],
+                at: 8192 + BLOCK * block,
+                bytes: &image[BLOCK * made..BLOCK * made + BLOCK],
             };
         }
         NextStore::Interval(LiveInterval {
@@ -166,8 +163,8 @@ impl<'a> FormedCard<'a> {
         if range_in(&Image::from(image)).is_none() {
             return Err(Refusal::Unreadable);
         }
-        let blocks = image.len() / 4096;
-        if blocks < 1 || (blocks as u64) < made {
+        let blocks = image.len() / BLOCK;
+        if blocks == 0 || (blocks as u64) < made {
             return Ok(None);
         }
         if self.n < LiveInterval::of(self.bytes).len as u64 + blocks as u64 {
@@ -188,7 +185,7 @@ impl<'a> FormedCard<'a> {
         ensures next { IfOk result (λ next. IfSome next (λ store. Fits store self.now.bytes.now
             × (card_with store self.now.bytes.now ≡ stored self.now.n self.now.bytes.now image.now made))) }
     {
-        if image.len() % 4096 != 0 {
+        if image.len() % BLOCK != 0 {
             return Err(Refusal::ImageNotWhole.into());
         }
         if let Some(block) = journal_image::lowest_damaged(image) {
@@ -208,7 +205,7 @@ impl<'a> FormedCard<'a> {
             image_outcome_of (Err why) ≡ release_call self.now.n self.now.bytes.now) }
     {
         let LiveInterval { start, len } = LiveInterval::of(self.bytes);
-        if len < 1 {
+        if len == 0 {
             return Err(Refusal::NothingThere.into());
         }
         let live = self.live();

@@ -3,6 +3,7 @@ ghost use Rattle.std.specs.Prelude.{◌≡◌};
 ghost use Rattle.card.specs.Answers.{Fits, card_with};
 
 use crate::super_block::LiveInterval;
+use journal_image::BLOCK;
 
 #[derive(Clone, Copy)]
 pub(crate) enum NextStore<'a> {
@@ -20,7 +21,7 @@ impl<'a> NextStore<'a> {
     {
         match *self {
             NextStore::Block { at, bytes } => {
-                card[at..at + 4096].copy_from_slice(bytes);
+                card[at..at + BLOCK].copy_from_slice(bytes);
             }
             NextStore::Interval(live) => live.rewrite(card),
         }

@@ -1,11 +1,13 @@
 // Block 0 of a card, which names the live interval, written and tested in place.
 ghost use Rattle.std.specs.Prelude.{◌≡◌, ◌≤◌, length};
+ghost use Rattle.disk_layout.specs.JournalInterval.{interval, valid_journal_interval};
 ghost use Rattle.journal_image.specs.Image.{same_bytes};
 ghost use Rattle.card.specs.Superblock.{super_fields, superblock};
 ghost use Rattle.card.specs.Card.{live_start, live_len};
 ghost use Rattle.card.specs.Calls.{rewritten};
 
 use journal_entry::ByteSequence;
+use journal_image::{BLOCK, CHECKSUM};
 
 // The live interval, as block 0 says it.
 #[derive(Clone, Copy)]
@@ -43,10 +45,10 @@ impl LiveInterval {
         ensures { block.new ≡ superblock self.start self.len }
     {
         let fields = self.fields();
-        block[32..46].copy_from_slice(&fields);
-        words::zero_fill(&mut block[46..4096]);
-        let sum = crc32c::checksum(&block[32..4096]);
-        block[0..32].copy_from_slice(&sum);
+        block[CHECKSUM..46].copy_from_slice(&fields);
+        words::zero_fill(&mut block[46..BLOCK]);
+        let sum = crc32c::checksum(&block[CHECKSUM..BLOCK]);
+        block[0..CHECKSUM].copy_from_slice(&sum);
     }
 
     // Stores block 0, and nothing else.
@@ -55,7 +57,7 @@ impl LiveInterval {
         requires { 4096 ≤ length card.old }
         ensures { card.new ≡ rewritten card.old self.start self.len }
     {
-        self.write(&mut card[0..4096]);
+        self.write(&mut card[0..BLOCK]);
     }
 
     // Whether a block is the one that names it.
@@ -64,8 +66,16 @@ impl LiveInterval {
         ensures { result ≡ same_bytes block.now (superblock self.start self.len) }
     {
         let fields = self.fields();
-        block[32..46] == fields[..]
-            && words::all_zero(&block[46..4096])
+        block[CHECKSUM..46] == fields[..]
+            && words::all_zero(&block[46..BLOCK])
             && journal_image::block_agrees(block)
+    }
+
+    // Whether it is one of a journal of n blocks.
+    #[tactic(auto, unfolding(disk_layout::specs::JournalInterval::valid_journal_interval))]
+    pub(crate) fn is_valid(self, n: u64) -> bool
+        ensures { result ≡ valid_journal_interval n (interval self.start self.len) }
+    {
+        (self.start as u64) < n && self.len as u64 <= n
     }
 }

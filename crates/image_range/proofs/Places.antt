@@ -10,7 +10,7 @@ use lib.Dec.{ltb}
 use lib.ListN.{length, take, drop, get_or, length-drop, length-append, get_or-eq_default}
 use lib.Seq.{get_or-drop, get_or-take}
 use Rattle.journal_entry.specs.Places.{word_at}
-use Rattle.journal_entry.proofs.Joins.{get_d_left, get_d_right, word_bytes, word_past}
+use Rattle.journal_entry.proofs.Joins.{get_d_left, get_d_right, word_bytes}
 use Rattle.journal_image.specs.Image.{without_checksums}
 use Rattle.journal_image.proofs.Payloads.{length_payload, length_without}
 use Rattle.journal_image.proofs.Blocks.{without_drop}
@@ -89,9 +89,6 @@ module _ (s : List ℕ) (p : ℕ) where
         bytes_from h 3 (omega arith),
       )
 
-  word_behind : length (image_payload s) ≤ p → 0 ≡ word_at (image_payload s) p
-  word_behind h = sym (word_past (image_payload s) p h)
-
   -- The place, if p is one of the payload's.
 
   abbrev pub place_in : Option ℕ
@@ -129,11 +126,11 @@ module _ (s : List ℕ) (p : ℕ) where
   pub word_placed : (at : ℕ) → place_in ≡ Some at → p % 4064 ≤ 4060 → word_at s at ≡ word_at (image_payload s) p
   word_placed at e inside = let (h, is) = place_told at e in rw is (word_inside h inside)
 
-  pub word_unplaced : place_in ≡ None → 0 ≡ word_at (image_payload s) p
-  word_unplaced e = word_behind (place_none e)
+  pub word_fits : (at : ℕ) → place_in ≡ Some at → p % 4064 ≤ 4060 → p + 4 ≤ length (image_payload s)
+  word_fits at e inside = omega (arith, (place_told at e).0, length_image_payload s)
 
 -- what the readers of a byte and of a word are proved by
-pub ruleset places = (placed, unplaced, byte_placed, byte_unplaced, word_placed, word_unplaced, word_bytes)
+pub ruleset places = (placed, unplaced, byte_placed, byte_unplaced, word_placed, word_fits)
 
 -- THE PART FROM A BLOCK ON: its payload is the payload from there on
 pub payload_behind : (s : List ℕ) (j : ℕ) → j ≤ length s / 4096

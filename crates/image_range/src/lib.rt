@@ -3,7 +3,7 @@
 // payload, and those that read payload read it.
 #![tactic(auto)]
 
-ghost use Rattle.std.specs.Prelude.{◌≡◌, ◌+◌, ◌*◌, ◌/◌, ◌%◌, cond, ltb, length, get_or};
+ghost use Rattle.std.specs.Prelude.{◌≡◌, ◌+◌, ◌*◌, ◌/◌, ◌%◌, cond, ltb, length};
 ghost use Rattle.journal_entry.specs.Sequence.{joined};
 ghost use Rattle.image_range.specs.InPlace.{image_payload, lowest_of_two};
 
@@ -53,17 +53,6 @@ impl<'a> Image<'a> {
             None
         }
     }
-
-    // The byte at i of the payload, 0 past its end.
-    #[tactic(auto, using(crate::proofs::Places::places))]
-    pub fn byte_at(&self, i: usize) -> u8
-        ensures { result ≡ get_or (image_payload (joined self.now.0)) i 0 }
-    {
-        match self.place(i) {
-            Some(at) => self.0.byte_at(at),
-            None => 0,
-        }
-    }
 }
 
 impl<'a> ByteSequence for Image<'a> {
@@ -75,20 +64,22 @@ impl<'a> ByteSequence for Image<'a> {
     }
 
     #[tactic(auto, using(crate::proofs::Places::places))]
-    fn word_at(&self, i: usize) -> u32 {
-        let Some(at) = self.place(i) else {
-            return 0;
-        };
-        if i % 4064 <= 4060 {
-            return self.0.word_at(at);
+    fn byte_at(&self, i: usize) -> u8 {
+        match self.place(i) {
+            Some(at) => self.0.byte_at(at),
+            None => 0,
         }
-        // it may end in the next block
-        words::word_of(
-            self.byte_at(i),
-            self.byte_at(i + 1),
-            self.byte_at(i + 2),
-            self.byte_at(i + 3),
-        )
+    }
+
+    #[tactic(auto, using(crate::proofs::Places::places))]
+    fn word_whole(&self, i: usize) -> Option<u32> {
+        let at = self.place(i)?;
+        // (behind that it ends in the next block)
+        if i % 4064 <= 4060 {
+            Some(self.0.word_at(at))
+        } else {
+            None
+        }
     }
 }
 

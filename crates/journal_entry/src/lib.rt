@@ -96,18 +96,12 @@ fn first_len(word: u32) -> usize
 fn fits(at: usize, n: usize, end: usize) -> bool
     ensures { result ≡ leb (at + 8 + n) end }
 {
-    if end < 8 {
-        return false;
-    }
-    let last = end - 8;
-    if last < at {
-        return false;
-    }
-    n <= last - at
+    8 <= end && at <= end - 8 && n <= end - 8 - at
 }
 
 // The entry at `at` with these two length words, if it ends by `end` and is within the limits, in whatever sequence
 // the words stand.
+#[tactic(auto, using(crate::proofs::Options::fit_yes))]
 fn placed(word: u32, after: u32, at: usize, end: usize) -> Option<EntryPlace>
     ensures { (s : List ℕ) → end ≤ length s → word ≡ word_at s at
         → after ≡ word_at s (at + 4 + (word - clone_mark (leb 4096 word))) → result ≡ entry_at s at end }
@@ -135,6 +129,7 @@ fn placed(word: u32, after: u32, at: usize, end: usize) -> Option<EntryPlace>
 }
 
 // The entry at `at`, if it ends by `end`, which lies in the sequence, and is within the limits.
+#[tactic(auto, using(crate::proofs::Options::fit_yes))]
 pub fn entry_at<S: ByteSequence>(s: &S, at: usize, end: usize) -> Option<EntryPlace>
     ensures { result ≡ entry_at (S.bytes s.now) at end }
 {
@@ -155,10 +150,7 @@ pub fn entry_at<S: ByteSequence>(s: &S, at: usize, end: usize) -> Option<EntryPl
 pub fn counted_in<S: ByteSequence>(s: &S, at: usize, end: usize, count: usize) -> Option<Counted>
     ensures { result ≡ entries_counted (S.bytes s.now) at end count }
 {
-    if end < at {
-        return None;
-    }
-    if s.len() < end {
+    if end < at || s.len() < end {
         return None;
     }
     let mut place = at;

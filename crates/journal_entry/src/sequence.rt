@@ -1,5 +1,5 @@
 // A byte sequence that is read where it lies. Nothing is copied, and only length words are looked at.
-ghost use Rattle.std.specs.Prelude.{◌≡◌, List, ℕ, ◌++◌, ◌+◌, ◌≤◌, ◌<◌, length, get_or};
+ghost use Rattle.std.specs.Prelude.{◌≡◌, List, ℕ, ◌+◌, ◌≤◌, length, get_or, Some};
 ghost use Rattle.journal_entry.specs.Places.{word_at};
 ghost use Rattle.journal_entry.specs.Sequence.{joined};
 
@@ -10,9 +10,34 @@ pub trait ByteSequence {
     fn len(&self) -> usize
         ensures { result ≡ length (bytes self.now) };
 
+    // The byte at i, 0 past the end.
+    fn byte_at(&self, i: usize) -> u8
+        ensures { result ≡ get_or (bytes self.now) i 0 };
+
+    // The word at i, if it is at hand in one piece.
+    fn word_whole(&self, i: usize) -> Option<u32>
+        ensures value { (word : ℕ) → result ≡ Some word → word ≡ word_at (bytes self.now) i }
+        ensures inside { (word : ℕ) → result ≡ Some word → i + 4 ≤ length (bytes self.now) };
+
     // The word at i. Bytes past the end count 0.
+    #[tactic(auto, using(crate::proofs::Joins::word_past, crate::proofs::Joins::word_by_bytes))]
     fn word_at(&self, i: usize) -> u32
-        ensures { result ≡ word_at (bytes self.now) i };
+        ensures { result ≡ word_at (bytes self.now) i }
+    {
+        if let Some(word) = self.word_whole(i) {
+            return word;
+        }
+        if self.len() <= i {
+            return 0;
+        }
+        // (there is no byte at usize::MAX)
+        words::word_of(
+            self.byte_at(i),
+            self.byte_at(i.saturating_add(1)),
+            self.byte_at(i.saturating_add(2)),
+            self.byte_at(i.saturating_add(3)),
+        )
+    }
 }
 
 // Two slices as one, front then back: a payload in two parts, or the two parts of a ring.
@@ -20,21 +45,6 @@ pub trait ByteSequence {
 pub struct Joined<'a> {
     pub front: &'a [u8],
     pub back: &'a [u8],
-}
-
-// The byte at i, 0 past the end.
-fn byte_in(s: &[u8], i: usize) -> u8
-    ensures { result ≡ get_or s.now i 0 }
-{
-    if i < s.len() { s[i] } else { 0 }
-}
-
-// The word at i of a slice that holds it whole.
-fn word_in(s: &[u8], i: usize) -> u32
-    requires { i + 4 ≤ length s.now }
-    ensures { result ≡ word_at s.now i }
-{
-    words::word_of(s[i], s[i + 1], s[i + 2], s[i + 3])
 }
 
 impl<'a> ByteSequence for &'a [u8] {
@@ -45,36 +55,16 @@ impl<'a> ByteSequence for &'a [u8] {
         s.len()
     }
 
-    fn word_at(&self, i: usize) -> u32 {
+    fn byte_at(&self, i: usize) -> u8 {
         let s = *self;
-        let n = s.len();
-        if n <= i {
-            return 0;
-        }
-        if 4 <= n - i {
-            return word_in(s, i);
-        }
-        // it ends past the slice
-        words::word_of(
-            s[i],
-            byte_in(s, i + 1),
-            byte_in(s, i + 2),
-            byte_in(s, i + 3),
-        )
+        s.get(i).copied().unwrap_or(0)
     }
-}
 
-impl<'a> Joined<'a> {
-    // The byte at i, 0 past the end.
-    pub fn byte_at(&self, i: usize) -> u8
-        ensures { result ≡ get_or (joined self.now) i 0 }
-    {
-        let n = self.front.len();
-        if i < n {
-            self.front[i]
-        } else {
-            byte_in(self.back, i - n)
-        }
+    #[tactic(auto, using(crate::proofs::Joins::word_of_chunk))]
+    fn word_whole(&self, i: usize) -> Option<u32> {
+        let s = *self;
+        let word = s.get(i..)?.first_chunk::<4>()?;
+        Some(u32::from_le_bytes(*word))
     }
 }
 
@@ -85,20 +75,22 @@ impl<'a> ByteSequence for Joined<'a> {
         self.front.len() + self.back.len()
     }
 
-    fn word_at(&self, i: usize) -> u32 {
+    fn byte_at(&self, i: usize) -> u8 {
         let n = self.front.len();
-        if n <= i {
-            return self.back.word_at(i - n);
+        if i < n {
+            self.front[i]
+        } else {
+            self.back.byte_at(i - n)
         }
-        if 4 <= n - i {
-            return word_in(self.front, i);
+    }
+
+    #[tactic(auto, using(crate::proofs::Joins::whole_left, crate::proofs::Joins::whole_right))]
+    fn word_whole(&self, i: usize) -> Option<u32> {
+        let n = self.front.len();
+        if i < n {
+            self.front.word_whole(i)
+        } else {
+            self.back.word_whole(i - n)
         }
-        // it starts in front and ends behind it
-        words::word_of(
-            self.byte_at(i),
-            self.byte_at(i + 1),
-            self.byte_at(i + 2),
-            self.byte_at(i + 3),
-        )
     }
 }

@@ -11,6 +11,15 @@ use refusals::{ImageRefusal, Refusal};
 use std::io;
 use std::io::Read;
 
+// The most bytes of an image: fifteen blocks.
+const IMAGE: usize = 15 * 4096;
+
+// Of its payload.
+const PAYLOAD: usize = 15 * 4064;
+
+// And of its text: a first line, and lines of at most twice their entries' wire forms.
+const TEXT: usize = 2 * PAYLOAD + 32;
+
 // A refusal's number. Which block is damaged is not printed.
 fn number(why: ImageRefusal) -> u64
     ensures { result ≡ image_number_of why }
@@ -28,7 +37,7 @@ fn list_payload(payload: &[u8], replay: &mut [u8], text: &mut [u8]) -> Result<us
 {
     let whole = Joined {
         front: payload,
-        back: &payload[0..0],
+        back: &[],
     };
     match journal_range::load(&whole, replay) {
         Ok(range) => listing::list_entries(&replay[0..range.bytes], range.entries, text),
@@ -49,10 +58,10 @@ fn list_image(
         ≡ listed_image image.now (length payload.old) (length replay.old)
         text.old }
 {
-    if payload.len() < 60960 || replay.len() < 60960 || text.len() < 121952 {
+    if payload.len() < PAYLOAD || replay.len() < PAYLOAD || text.len() < TEXT {
         return Err(Refusal::OutputTooShort);
     }
-    if 61440 < image.len() {
+    if IMAGE < image.len() {
         return listing::list_refusal(Refusal::PayloadNotWhole.into(), text);
     }
     match journal_image::strip(image, payload) {
@@ -94,9 +103,9 @@ fn main(rt: HostRuntime) -> io::Result<()> {
     let Ok(n) = read_full(&mut rt.stdin(), &mut image) else {
         return say(&rt, b"unread\n");
     };
-    let mut payload = [0u8; 60960];
-    let mut replay = [0u8; 60960];
-    let mut text = [0u8; 121952];
+    let mut payload = [0u8; PAYLOAD];
+    let mut replay = [0u8; PAYLOAD];
+    let mut text = [0u8; TEXT];
     let Ok(end) = list_image(&image[..n], &mut payload, &mut replay, &mut text) else {
         return Ok(());
     };

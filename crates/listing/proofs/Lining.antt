@@ -2,7 +2,7 @@
 use Prim.Native.Nat.{ℕ, suc, ◌-◌, ◌≤◌, ◌<◌}
 use mathlib.Core.Path.{◌≡◌, refl, sym, ap, ◌∙◌, subst}
 use mathlib.Core.List.{List, ◌∷◌, ◌++◌}
-use Rattle.std.specs.Prelude.{Option, None, Some}
+use Rattle.std.specs.Prelude.{Option, None, Some, IsSome}
 use native.Mathlib.Omega.{arith}
 use lib.ListN.{length}
 use lib.Seq.{take_all}
@@ -59,11 +59,15 @@ module _ {s : List ℕ} {count : ℕ} {p₀ p : Pen} {here left : ℕ} (w : Lini
     one_more : suc (left - 1) ≡ left
     one_more = omega arith
 
-    pub lining_never : entry_at s here (length s) ≡ None → ⊥
-    lining_never e =
-        let stopped : read_entries left (part s here (length s)) ≡ None =
-        rw one_more at (read_stops s here (length s) (left - 1) (omega arith) w.from e) in
-        subst Reads stopped w.reads
+    pub lining_reads : IsSome (entry_at s here (length s))
+    lining_reads = go (entry_at s here (length s)) refl
+      where
+        go : (o : Option EntryPlace) → entry_at s here (length s) ≡ o → IsSome o
+        go (Some at) e = refl
+        go None e =
+            let stopped : read_entries left (part s here (length s)) ≡ None =
+            rw one_more at (read_stops s here (length s) (left - 1) (omega arith) w.from e) in
+            absurd (subst Reads stopped w.reads)
 
     module _ (at : EntryPlace) (e : entry_at s here (length s) ≡ Some at) where
       rest : Option (List JournalEntry × List ℕ)

@@ -1,10 +1,10 @@
 // A pen: it puts one part of the text behind the other.
-ghost use Rattle.std.specs.Prelude.{◌≡◌, [], ◌∷◌, ◌<◌};
+ghost use Rattle.std.specs.Prelude.{◌≡◌, [], ◌∷◌};
 ghost use Rattle.journal_entry.specs.Entry.{entry_of};
 ghost use Rattle.journal_entry.specs.Parse.{read_entries};
 ghost use Rattle.journal_entry.specs.Places.{is_clone_kind, entry_at_place};
 ghost use Rattle.listing.specs.Text.{hex_bytes, piece, decimal, number_line, entry_line};
-ghost use Rattle.listing.specs.Text.{digit as Text·digit, letter as Text·letter};
+ghost use Rattle.listing.specs.Text.{letter as Text·letter};
 ghost use Rattle.listing.specs.Listing.{PiecesIn, Reads, lines_of};
 ghost use Rattle.listing.specs.Put.{Puts, Room};
 
@@ -15,15 +15,6 @@ use journal_entry::{EntryPlace, Kind};
 pub(crate) struct Pen<'a> {
     pub(crate) text: &'a mut [u8],
     pub(crate) at: usize,
-}
-
-// The character of a digit below 16.
-#[tactic(auto, unfolding(crate::specs::Text::digit))]
-fn digit(d: u8) -> u8
-    requires { d < 16 }
-    ensures { result ≡ Text·digit d }
-{
-    if d < 10 { b'0' + d } else { b'a' + (d - 10) }
 }
 
 // `I` for an insert, `C` for a clone.
@@ -57,14 +48,14 @@ impl<'a> Pen<'a> {
     }
 
     // Bytes in hexadecimal, two digits each.
+    #[tactic(auto, using(crate::proofs::TextLaws::hex_long))]
     fn hex(&mut self, bytes: &[u8])
         requires { Room self.old (hex_bytes bytes.now) }
         ensures { Puts self.old (hex_bytes bytes.now) self.new }
     {
-        for &b in bytes {
-            self.byte(digit(b / 16));
-            self.byte(digit(b % 16));
-        }
+        let end = self.at + 2 * bytes.len();
+        hex::encode_to_slice(bytes, &mut self.text[self.at..end]).unwrap();
+        self.at = end;
     }
 
     // The same, `-` for none.
@@ -135,10 +126,7 @@ impl<'a> Pen<'a> {
     {
         let mut here = 0;
         for _ in 0..count {
-            let Some(place) = journal_entry::entry_at(&wires, here, wires.len()) else {
-                // never: they read
-                return;
-            };
+            let place = journal_entry::entry_at(&wires, here, wires.len()).unwrap();
             self.place(wires, place);
             here = place.next;
         }

@@ -26,6 +26,28 @@ run_far : (size place b done : ℕ) → size ≤ place + done
 unfolding run_at
 run_far size place b done h = rw (advance_far size place done h)
 
+-- behind some bytes of a block, so much less is left to its end
+pub block_left : (done filled : ℕ) → filled < to_block_end done
+    → to_block_end (done + filled) ≡ to_block_end done - filled
+block_left done filled h = omega arith
+
+-- from the second byte of a run on, the rest of it is the next one
+run_rest : (size place b done : ℕ) → 1 < run_at size place b done
+    → done + 1 + run_at size place b (done + 1) ≡ done + run_at size place b done
+run_rest size place b done h = dite (dec_lt (place + done) size) near (λ k. far (omega arith))
+  where
+    near : place + done < size → done + 1 + run_at size place b (done + 1) ≡ done + run_at size place b done
+    near k =
+        let r = run_near size place b done k in
+        let s = run_near size place b (done + 1) (omega arith) in
+        let e = block_left done 1 (omega arith) in omega arith
+
+    far : size ≤ place + done → done + 1 + run_at size place b (done + 1) ≡ done + run_at size place b done
+    far k =
+        let r = run_far size place b done k in
+        let s = run_far size place b (done + 1) (omega arith) in
+        let e = block_left done 1 (omega arith) in omega arith
+
 -- Turns.
 
 no_turn : (turns size place b done : ℕ) → b ≤ done → runs_within turns size place b done ≡ []
@@ -147,12 +169,7 @@ module _ (size place b : ℕ) (inside : place ≤ size) (fits : b ≤ size) wher
 
 -- A ring as it is lent: x up to its end, y from its start; the list starts `at` bytes on in x ++ y.
 
--- behind some bytes of a block, so much less is left to its end
-pub block_left : (done filled : ℕ) → filled < to_block_end done
-    → to_block_end (done + filled) ≡ to_block_end done - filled
-block_left done filled h = omega arith
-
--- so a run that passes neither end from there passes neither from the first of those bytes
+-- a run that passes neither end from there passes neither from the first of those bytes
 pub run_within : (n done filled end r : ℕ) → end ≡ min (to_block_end done) (n - done) → filled < end
     → r ≤ n - (done + filled) → r ≤ to_block_end (done + filled)
     → filled + r ≤ end
@@ -222,6 +239,35 @@ module _ (x y : List ℕ) (at n : ℕ) (there : at + n ≤ length x + length y) 
       let next : runs_left x y at n done ≡ suc (runs_left x y at n (done + run_at size place n done)) =
       ap length (runs_next size place n inside (omega arith) done more) in
       rw is (l.0, l.1, l.2, omega arith)
+
+  -- a byte more that is copied is one run fewer at most
+  one_fewer : (done : ℕ) → runs_left x y at n done ≤ suc (runs_left x y at n (done + 1))
+  unfolding runs_left
+  one_fewer done = dite (dec_lt done n) more (λ k. let e = left_none done (omega arith) in omega arith)
+    where
+      more : done < n → runs_left x y at n done ≤ suc (runs_left x y at n (done + 1))
+      more h =
+          let l = run_long size place n inside (omega arith) done h in
+          let next : runs_left x y at n done ≡ suc (runs_left x y at n (done + run_at size place n done)) =
+          ap length (runs_next size place n inside (omega arith) done h) in
+          dite (dec_lt 1 (run_at size place n done))
+          (λ k.
+          let again : runs_left x y at n (done + 1)
+          ≡ suc (runs_left x y at n (done + 1 + run_at size place n (done + 1))) =
+          ap length (runs_next size place n inside (omega arith) (done + 1) (omega arith)) in
+          let same = rw (run_rest size place n done k) at again in omega arith)
+          (λ k. let one : run_at size place n done ≡ 1 = omega arith in let e = rw one at next in omega arith)
+
+  -- so runs are at most as many as the bytes that they lead over: none is empty
+  pub takes_few : (k done r : ℕ) → Takes x y at n done (done + k) r → r ≤ k
+  unfolding Takes
+  takes_few k done r t = let f = fewer k done in omega arith
+    where
+      fewer : (k done : ℕ) → runs_left x y at n done ≤ k + runs_left x y at n (done + k)
+      fewer zero done = let e : done + 0 ≡ done = omega arith in rw e (omega arith)
+      fewer (suc k) done =
+          let e : done + 1 + k ≡ done + suc k = omega arith in
+          let f = rw e at (fewer k (done + 1)) in let g = one_fewer done in omega arith
 
   -- behind the list's end there are none up to the block's
   pub takes_block : (done end r : ℕ) → end ≡ min (to_block_end done) (n - done) → Takes x y at n done (done + end) r

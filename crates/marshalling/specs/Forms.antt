@@ -1,12 +1,17 @@
 -- A list's wire forms where they lie in the ring as it is lent, and their runs. Assumes nothing.
-use Rattle.std.specs.Prelude.{List, ℕ, ◌+◌, length, take, drop}
+use Rattle.std.specs.Prelude.{List, ℕ, ◌++◌, ◌+◌, length, take, drop}
 use Rattle.journal_entry.specs.Sequence.{joined}
 use Rattle.marshalling.specs.declared.forms.Forms.{Forms}
+use Rattle.marshalling.specs.declared.forms.Batch.{Batch}
 use Rattle.marshalling.specs.Runs.{run_at, runs_of, place_in, Takes}
 
 -- their bytes
 abbrev pub forms_bytes : Forms → List ℕ
 forms_bytes f = take f.len (drop f.at (joined f.ring))
+
+-- a batch's bytes: the header's, and behind them the forms'
+abbrev pub batch_bytes : Batch → List ℕ
+batch_bytes b = b.header ++ forms_bytes b.forms
 
 -- their place in the ring, and its size
 abbrev pub ring_size : Forms → ℕ

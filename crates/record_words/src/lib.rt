@@ -81,12 +81,11 @@ pub fn decode(words: &[u64]) -> Result<Journalist, Refusal>
     })
 }
 
+#[tactic(auto, using(crate::proofs::Stores::stores))]
 fn store(words: &mut [u64], j: Journalist)
     requires { word_count ≤ length words.old }
     ensures { words.new ≡ words_of j ++ drop word_count words.old }
 {
-    let front = j.front;
-    let back = j.back;
     words[0] = LAYOUT;
     words[1] = j.blocks as u64;
     words[2] = j.ring as u64;
@@ -100,10 +99,10 @@ fn store(words: &mut [u64], j: Journalist)
     words[10] = j.replay.place as u64;
     words[11] = j.replay.bytes as u64;
     words[12] = j.replay.entries as u64;
-    words[13] = u64::from(front.is_some());
-    words[14] = front.unwrap_or(0) as u64;
-    words[15] = u64::from(back.is_some());
-    words[16] = back.unwrap_or(0) as u64;
+    words[13] = u64::from(j.front.is_some());
+    words[14] = j.front.unwrap_or(0) as u64;
+    words[15] = u64::from(j.back.is_some());
+    words[16] = j.back.unwrap_or(0) as u64;
     words[17] = j.clones as u64;
     words[18] = j.last.entries as u64;
     words[19] = j.last.bytes as u64;

@@ -44,6 +44,12 @@ pub fn counts_hang(entries: usize, bytes: usize) -> bool
 }
 
 impl Replay {
+    pub const NONE: Replay = Replay {
+        place: 0,
+        bytes: 0,
+        entries: 0,
+    };
+
     // Whether the counts hang together, and a buffer is at least as long as recorded. (No sum is made that may wrap.)
     #[tactic(auto, unfolding(crate::specs::Cursor::lies_in))]
     fn lies_in(self, replay: &[u8]) -> bool
@@ -83,6 +89,7 @@ impl Replay {
     }
 
     // The cursor behind that entry.
+    #[tactic(auto, using(crate::proofs::Rows::gave_numbers))]
     pub fn pop(self, replay: &[u8]) -> Result<Replay, Refusal>
         ensures { outcome_of result ≡ pop_call self replay.now }
     {

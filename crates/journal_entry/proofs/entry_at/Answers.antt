@@ -1,11 +1,11 @@
 -- `entry_at` meets its contract: what does not lie there contradicts `Readable`, and `placed` judges the two words
 -- that were read. Assumes nothing.
-use Prim.Native.Nat.{ℕ, ◌+◌, ◌≤◌, ◌<◌}
+use Prim.Native.Nat.{ℕ, ◌+◌, ◌<◌}
 use mathlib.Core.List.{List}
 use mathlib.Core.Path.{sym, ap, ◌∙◌}
 use native.Mathlib.Omega.{arith}
 use Rattle.journal_entry.specs.Places.{word_at}
-use Rattle.journal_entry.proofs.Options.{fit_yes, fit_no}
+use Rattle.journal_entry.proofs.Options.{fit_no}
 use Rattle.journal_entry.proofs.Readable.{read_no, first_at_lem}
 use Rattle.journal_entry.proofs.entry_at.Goals as goal
 use Rattle.journal_entry.proofs.entry_at.Goals.{Start}
@@ -24,20 +24,8 @@ returns-then-not-fits g c =
     let s = read g (goal.at.returns-then-not-fits g c).Start in
     let first = first_at_lem s c.args.at _ c.word_at-word.ensures _ c.first_len-first.ensures in
     let past : c.args.end < c.args.at + 8 + c.first_len-first.result =
-    fit_no _ _ _ c.fits.ensures c.if-not-fits.true-raw in
+    fit_no _ _ _ c.fits.ensures c.if-not-fits.true in
     sym (read_no s c.args.at c.args.end (λ h. omega (arith, h.before, first, past)))
-
-pub overflow_add-at : goal.overflow_add-at
-overflow_add-at g c =
-    let inside : c.args.at + 8 + c.first_len-first.result ≤ c.args.end =
-    fit_yes _ _ _ c.fits.ensures c.if-not-fits.false-raw in
-    omega arith
-
-pub overflow_add-at-2 : goal.overflow_add-at-2
-overflow_add-at-2 g c =
-    let inside : c.args.at + 8 + c.first_len-first.result ≤ c.args.end =
-    fit_yes _ _ _ c.fits.ensures c.if-not-fits.false-raw in
-    omega arith
 
 pub returns : goal.returns
 returns g c =

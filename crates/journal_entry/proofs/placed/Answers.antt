@@ -29,7 +29,7 @@ limit_got c s at is = c.second_limit.ensures.value
 -- both pieces lie before the end
 fit_got : (c : Else-not-fits) → let x = c.args in
     x.at + 8 + (c.first_len-first.result + x.after) ≤ x.end
-fit_got c = fit_yes _ _ _ c.fits.ensures c.if-not-fits.false-raw
+fit_got c = fit_yes _ _ _ c.fits.ensures c.if-not-fits.false
 
 pub returns-then-first-gt-FIRST_LIMIT : goal.returns-then-first-gt-FIRST_LIMIT
 returns-then-first-gt-FIRST_LIMIT c s inside is₁ is₂ =
@@ -50,26 +50,8 @@ returns-then-not-fits c s inside is₁ is₂ =
     let f = first_at_lem s x.at x.word is₁ _ c.first_len-first.ensures in
     let g = second_at_lem s x.at x.word is₁ (x.word - clone_mark (leb 4096 x.word)) refl x.after is₂ in
     let past : x.end < x.at + 8 + (c.first_len-first.result + x.after) =
-    fit_no _ _ _ c.fits.ensures c.if-not-fits.true-raw in
+    fit_no _ _ _ c.fits.ensures c.if-not-fits.true in
     sym (read_no s x.at x.end (λ h. omega (arith, f, g, past)))
-
-pub overflow_add-result : goal.overflow_add-result
-overflow_add-result c = omega (arith, fit_got (goal.at.overflow_add-result c).Else-not-fits)
-
-pub overflow_add-result-2 : goal.overflow_add-result-2
-overflow_add-result-2 c = omega (arith, fit_got (goal.at.overflow_add-result-2 c).Else-not-fits)
-
-pub overflow_add-result-3 : goal.overflow_add-result-3
-overflow_add-result-3 c = omega (arith, fit_got (goal.at.overflow_add-result-3 c).Else-not-fits)
-
-pub overflow_add-result-4 : goal.overflow_add-result-4
-overflow_add-result-4 c = omega (arith, fit_got (goal.at.overflow_add-result-4 c).Else-not-fits)
-
-pub overflow_add-result-5 : goal.overflow_add-result-5
-overflow_add-result-5 c = omega (arith, fit_got (goal.at.overflow_add-result-5 c).Else-not-fits)
-
-pub overflow_add-result-6 : goal.overflow_add-result-6
-overflow_add-result-6 c = omega (arith, fit_got (goal.at.overflow_add-result-6 c).Else-not-fits)
 
 pub returns : goal.returns
 returns c s inside is₁ is₂ =

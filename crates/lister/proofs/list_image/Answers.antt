@@ -12,8 +12,8 @@ blocks : (c : In-Ok) → Given c.args.image.now c.args.payload.now c.in-Ok.block
 blocks c =
     given_told c.args.image.now c.args.payload.now c.in-Ok.blocks (answer_told c.strip.ensures.result_value c.in-Ok.is)
 
-pub returns-then-image-gt61440 : goal.returns-then-image-gt61440
-returns-then-image-gt61440 c =
+pub returns-then-image-gt-IMAGE : goal.returns-then-image-gt-IMAGE
+returns-then-image-gt-IMAGE c =
     too_long c.args.image.now (length c.args.payload.now) (length c.args.replay.now) c.args.text.now
     (record { of_payload = omega arith; of_replay = omega arith; of_text = omega arith })
     _ _ (omega arith) c.into.ensures c.list_refusal.ensures

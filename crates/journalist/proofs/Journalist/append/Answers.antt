@@ -3,7 +3,7 @@
 use mathlib.Core.Bool.{true}
 use mathlib.Core.Path.{◌≡◌, sym, ◌∙◌}
 use native.Mathlib.Omega.{arith}
-use Rattle.refusals.proofs.Tests.{passed, failed, told}
+use Rattle.refusals.proofs.Tests.{told}
 use Rattle.journal_entry.specs.Places.{is_clone_kind}
 use Rattle.journal_entry.proofs.Walks.{at_most_one}
 use Rattle.journalist.specs.Record.{hangs_together}
@@ -11,18 +11,20 @@ use Rattle.journalist.proofs.Facts.{facts, halves_hang, base_unhung, ring_hung}
 use Rattle.journalist.proofs.Appending.{Fits, answers_4, answers_5, answers_6}
 use Rattle.journalist.proofs.Appending.{answers_done}
 use Rattle.journalist.proofs.Journalist.append.Goals as goal
-use Rattle.journalist.proofs.Journalist.append.Goals.{Joined-base_hangs, then-base_hangs, else-base_hangs}
+use Rattle.journalist.proofs.Journalist.append.Goals.{Else-not-thaw_hangs, then-base_hangs, else-base_hangs}
 use Rattle.journalist.proofs.Journalist.append.Goals.{Else-second_limit-second}
 
--- both halves together are the record's test
-tested : (c : Joined-base_hangs) → c.if-base_hangs.value ≡ hangs_together c.args.self
-tested c =
-    elim c.if-base_hangs.branch [
+-- behind the record's test, which is both halves together
+hangs : (c : Else-not-thaw_hangs) → hangs_together c.args.self ≡ true
+hangs c =
+    told
+    (elim c.if-base_hangs.branch [
       | then-base_hangs w ↦ w.value-is ∙ w.thaw_hangs.ensures
           ∙ halves_hang _ (told c.base_hangs.ensures w.if-base_hangs.true)
       | else-base_hangs w ↦ w.value-is ∙ w.if-base_hangs.false ∙ sym
           (base_unhung _ (told c.base_hangs.ensures w.if-base_hangs.false))
-    ]
+    ])
+    c.if-not-thaw_hangs.false
 
 -- behind the limits
 fits : (c : Else-second_limit-second) → hangs_together c.args.self ≡ true
@@ -37,7 +39,7 @@ fits c h =
 pub returns-then-second_limit-second : goal.returns-then-second_limit-second
 returns-then-second_limit-second c =
     let a = c.args in
-    let h = told (tested (goal.at.returns-then-second_limit-second c).Joined-base_hangs) c.if-not-thaw_hangs.false in
+    let h = hangs (goal.at.returns-then-second_limit-second c).Else-not-thaw_hangs in
     let answer = answers_4 a.self a.ring.now a.kind a.first.now a.second.now
     (ring_hung _ a.ring.now h c.if-ring-self.false) (omega (arith, c.if-first-gt-FIRST_LIMIT.false))
     (omega (arith, c.second_limit.ensures, c.if-second_limit-second.true)) in
@@ -46,25 +48,25 @@ returns-then-second_limit-second c =
 pub returns-then-not-region_takes : goal.returns-then-not-region_takes
 returns-then-not-region_takes c =
     let a = c.args in
-    let h = told (tested (goal.at.returns-then-not-region_takes c).Joined-base_hangs) c.if-not-thaw_hangs.false in
+    let h = hangs (goal.at.returns-then-not-region_takes c).Else-not-thaw_hangs in
     let answer = answers_5 a.self a.ring.now a.kind a.first.now a.second.now
     (fits (goal.at.returns-then-not-region_takes c).Else-second_limit-second h)
-    (failed c.region_takes.ensures c.if-not-region_takes.true-raw) in
+    (told c.region_takes.ensures c.if-not-region_takes.true) in
     record { result_value = answer.0; ring_new = answer.1 }
 
 pub overflow_add-pending : goal.overflow_add-pending
 overflow_add-pending c =
-    let h = told (tested (goal.at.overflow_add-pending c).Joined-base_hangs) c.if-not-thaw_hangs.false in
+    let h = hangs (goal.at.overflow_add-pending c).Else-not-thaw_hangs in
     omega (arith, (facts c.args.self h).counts)
 
 pub overflow_add-result : goal.overflow_add-result
 overflow_add-result c =
-    let h = told (tested (goal.at.overflow_add-result c).Joined-base_hangs) c.if-not-thaw_hangs.false in
+    let h = hangs (goal.at.overflow_add-result c).Else-not-thaw_hangs in
     omega (arith, (facts c.args.self h).counts)
 
 pub overflow_add-result-2 : goal.overflow_add-result-2
 overflow_add-result-2 c =
-    let h = told (tested (goal.at.overflow_add-result-2 c).Joined-base_hangs) c.if-not-thaw_hangs.false in
+    let h = hangs (goal.at.overflow_add-result-2 c).Else-not-thaw_hangs in
     omega (
       arith,
       (facts c.args.self h).counts,
@@ -75,16 +77,16 @@ overflow_add-result-2 c =
 
 pub overflow_add-result-3 : goal.overflow_add-result-3
 overflow_add-result-3 c =
-    let h = told (tested (goal.at.overflow_add-result-3 c).Joined-base_hangs) c.if-not-thaw_hangs.false in
+    let h = hangs (goal.at.overflow_add-result-3 c).Else-not-thaw_hangs in
     omega (arith, (facts c.args.self h).counts, at_most_one (is_clone_kind c.args.kind), c.clones.ensures)
 
 pub returns-then-is_err : goal.returns-then-is_err
 returns-then-is_err c =
     let a = c.args in
-    let h = told (tested (goal.at.returns-then-is_err c).Joined-base_hangs) c.if-not-thaw_hangs.false in
+    let h = hangs (goal.at.returns-then-is_err c).Else-not-thaw_hangs in
     let answer = answers_6 a.self a.ring.now a.kind a.first.now a.second.now
     (fits (goal.at.returns-then-is_err c).Else-second_limit-second h)
-    (passed c.region_takes.ensures c.if-not-region_takes.false-raw)
+    (told c.region_takes.ensures c.if-not-region_takes.false)
     c.put_entry.result c.put_entry.new.ring _ c.put_entry.ensures (omega arith)
     (sym c.is_err.ensures.value ∙ c.if-is_err.true) in
     record { result_value = answer.0; ring_new = answer.1 }
@@ -92,10 +94,10 @@ returns-then-is_err c =
 pub returns : goal.returns
 returns c =
     let a = c.args in
-    let h = told (tested (goal.at.returns c).Joined-base_hangs) c.if-not-thaw_hangs.false in
+    let h = hangs (goal.at.returns c).Else-not-thaw_hangs in
     let answer = answers_done a.self a.ring.now a.kind a.first.now a.second.now
     (fits (goal.at.returns c).Else-second_limit-second h)
-    (passed c.region_takes.ensures c.if-not-region_takes.false-raw)
+    (told c.region_takes.ensures c.if-not-region_takes.false)
     c.put_entry.result c.put_entry.new.ring _ c.put_entry.ensures (omega arith)
     (sym c.is_err.ensures.value ∙ c.if-is_err.false) c.clones.result c.clones.ensures in
     record { result_value = answer.0; ring_new = answer.1 }

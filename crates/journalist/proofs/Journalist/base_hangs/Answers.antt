@@ -7,7 +7,7 @@ use Prim.Native.Nat.{◌+◌, ◌≤◌, max}
 use native.Mathlib.Omega.{arith}
 use lib.Dec.{leb}
 use borrow.Author.Tests.{leb-true}
-use Rattle.refusals.proofs.Tests.{passed, failed, same}
+use Rattle.refusals.proofs.Tests.{told, same}
 use Rattle.replay_cursor.proofs.Counts.{counts_least}
 use Rattle.journalist.specs.Record.{in_range, base_hangs}
 use Rattle.journalist.specs.Recovery.{side_blocks}
@@ -19,28 +19,28 @@ use Rattle.journalist.proofs.Journalist.base_hangs.Goals.{After-max-2, Else-not-
 use Rattle.journalist.proofs.Journalist.base_hangs.Goals.{Else-not-in_range, Else-not-lists_hang}
 
 ranged_so : (c : Else-not-in_range) → in_range c.args.self.blocks c.args.self.ring ≡ true
-ranged_so c = passed c.in_range.ensures c.if-not-in_range.false-raw
+ranged_so c = told c.in_range.ensures c.if-not-in_range.false
 
 -- the lists' bytes, once the ring is known to hold them
 bytes_so : (c : Else-not-both_within) → let j = c.args.self in j.frozen.bytes + j.memory.bytes ≤ 8388608
 bytes_so c =
     let j = c.args.self in
-    let limits = range_facts _ _ (passed c.in_range.ensures c.if-not-in_range.false-raw) in
+    let limits = range_facts _ _ (told c.in_range.ensures c.if-not-in_range.false) in
     let k =
     leb-true (j.frozen.bytes + j.memory.bytes) j.ring
-    (passed c.both_within.ensures c.if-not-both_within.false-raw) in
+    (told c.both_within.ensures c.if-not-both_within.false) in
     omega (arith, limits.ring)
 
 -- the blocks, once they are known to be within N
 blocks_so : (c : Else-not-both_within-2) → let j = c.args.self in (j.written + j.held ≤ j.blocks) × (j.blocks ≤ 1024)
 blocks_so c =
-    let limits = range_facts _ _ (passed c.in_range.ensures c.if-not-in_range.false-raw) in
-    (leb-true _ _ (passed c.both_within-2.ensures c.if-not-both_within-2.false-raw), limits.high)
+    let limits = range_facts _ _ (told c.in_range.ensures c.if-not-in_range.false) in
+    (leb-true _ _ (told c.both_within-2.ensures c.if-not-both_within-2.false), limits.high)
 
 lists_so : (c : Else-not-lists_hang) → ListsHang c.args.self
 lists_so c =
-    lists_told c.args.self (leb-true _ _ (passed c.both_within-2.ensures c.if-not-both_within-2.false-raw))
-    (passed c.lists_hang.ensures c.if-not-lists_hang.false-raw)
+    lists_told c.args.self (leb-true _ _ (told c.both_within-2.ensures c.if-not-both_within-2.false))
+    (told c.lists_hang.ensures c.if-not-lists_hang.false)
 
 -- the larger side, by both
 sides : (c : After-max-2) → let j = c.args.self in
@@ -49,7 +49,7 @@ sides c = c.max-2.ensures ∙ ap₂ max c.unwrap_or.ensures c.unwrap_or-2.ensure
 
 pub returns-then-not-in_range : goal.returns-then-not-in_range
 returns-then-not-in_range c =
-    test_fails _ _ (λ t. t.ranged) (failed c.in_range.ensures c.if-not-in_range.true-raw)
+    test_fails _ _ (λ t. t.ranged) (told c.in_range.ensures c.if-not-in_range.true)
 
 pub returns-then-max-self : goal.returns-then-max-self
 returns-then-max-self c =
@@ -58,12 +58,12 @@ returns-then-max-self c =
 
 pub returns-then-not-both_within : goal.returns-then-not-both_within
 returns-then-not-both_within c =
-    test_fails _ _ (λ t. t.filled) (failed c.both_within.ensures c.if-not-both_within.true-raw)
+    test_fails _ _ (λ t. t.filled) (told c.both_within.ensures c.if-not-both_within.true)
 
 pub returns-then-not-both_within-2 : goal.returns-then-not-both_within-2
 returns-then-not-both_within-2 c =
     test_fails c.args.self (leb (c.args.self.written + c.args.self.held) c.args.self.blocks)
-    (blocks_fit {j = c.args.self}) (failed c.both_within-2.ensures c.if-not-both_within-2.true-raw)
+    (blocks_fit {j = c.args.self}) (told c.both_within-2.ensures c.if-not-both_within-2.true)
 
 pub lists_hang-requires : goal.lists_hang-requires
 lists_hang-requires c =
@@ -74,11 +74,11 @@ lists_hang-requires c =
 
 pub returns-then-not-lists_hang : goal.returns-then-not-lists_hang
 returns-then-not-lists_hang c =
-    test_fails _ _ lists_fit (failed c.lists_hang.ensures c.if-not-lists_hang.true-raw)
+    test_fails _ _ lists_fit (told c.lists_hang.ensures c.if-not-lists_hang.true)
 
 pub returns-then-not-counts_hang : goal.returns-then-not-counts_hang
 returns-then-not-counts_hang c =
-    test_fails _ _ (λ t. t.replay) (failed c.counts_hang.ensures c.if-not-counts_hang.true-raw)
+    test_fails _ _ (λ t. t.replay) (told c.counts_hang.ensures c.if-not-counts_hang.true)
 
 pub returns-then-self-max : goal.returns-then-self-max
 returns-then-self-max c =
@@ -112,11 +112,11 @@ returns c =
       ranged = ranged_so (goal.at.returns c).Else-not-in_range;
       started =
           start_true j.ring j.start (omega (arith, c.max.ensures, c.if-max-self.false));
-      filled = passed c.both_within.ensures c.if-not-both_within.false-raw;
+      filled = told c.both_within.ensures c.if-not-both_within.false;
       region = lists.region;
       frozen = lists.frozen;
       memory = lists.memory;
-      replay = passed c.counts_hang.ensures c.if-not-counts_hang.false-raw;
+      replay = told c.counts_hang.ensures c.if-not-counts_hang.false;
       front = side_hangs_lem j.blocks j.front
           (omega (arith, sides (goal.at.returns c).After-max-2, c.if-self-max.false));
       back = side_hangs_lem j.blocks j.back

@@ -3,64 +3,72 @@
 use mathlib.Core.Bool.{true, not}
 use mathlib.Core.Path.{◌≡◌, ap, ◌∙◌}
 use native.Mathlib.Omega.{arith}
+use lib.ListN.{length}
 use borrow.Author.Tests.{lt-leb, ne_eqb}
 use Rattle.std.proofs.lemmas.Result.{err_from_is_err_and}
 use Rattle.refusals.specs.declared.Refusal.TheVariants.{RingUnreadable}
-use Rattle.journalist.specs.Package.{frozen_read, memory_read, frozen_clones, ring_reads}
+use Rattle.journal_entry.specs.Sequence.{joined}
+use Rattle.journal_ring.proofs.Rotation.{length_rotated}
+use Rattle.journalist.specs.Package.{frozen_clones, ring_reads}
 use Rattle.journalist.proofs.Counts.{CountsOf}
 use Rattle.journalist.proofs.Facts.{ring_told, ring_counts}
 use Rattle.journalist.proofs.PackageLaws.{FrozenTaken, reads_told}
 use Rattle.journalist.proofs.Packaging.{ring_read, ring_unread, frozen_fits, frozen_refused, frozen_done}
 use Rattle.journalist.proofs.Journalist.package_frozen_journal.Goals as goal
+use Rattle.journalist.proofs.Journalist.package_frozen_journal.Goals.{After-from_start-pending}
 use Rattle.journalist.proofs.Journalist.package_frozen_journal.Goals.{In_ok-ring_checked, In_ok-write_batch, In_ok-of}
 
 counted : (c : In_ok-ring_checked) → CountsOf c.args.self
 counted c = ring_counts c.args.self c.args.ring.now c.in_ok-ring_checked.ensures
 
+-- the pending bytes are those of the ring from start on, and as many
+long : (c : After-from_start-pending) → length (joined c.from_start-pending.result) ≡ length c.args.ring.now
+long c = ap length c.from_start-pending.ensures ∙ length_rotated c.args.ring.now c.args.self.start
+
 -- the ring reads, and the clones that come off are the list's
 read : (c : In_ok-of) → (ring_reads c.args.self c.args.ring.now ≡ true)
     × (c.in_ok-of.of.frozen ≡ frozen_clones c.args.self c.args.ring.now)
-unfolding frozen_read memory_read
 read c =
-    let t = ring_read c.args.self c.args.ring.now c.ring_reads-read.result RingUnreadable c.ring_reads-read.ensures _
-    c.in_ok-of.ensures.value in (t.0, t.1)
+    let t = ring_read c.args.self c.args.ring.now _ c.ring_reads-read.result RingUnreadable
+    c.from_start-pending.ensures c.ring_reads-read.ensures _ c.in_ok-of.ensures.value in (t.0, t.1)
 
 -- behind all of them
-taken : (c : In_ok-write_batch) → FrozenTaken c.args.self c.args.ring.now c.args.out.now
-unfolding frozen_read memory_read
-taken c =
+taken : (c : In_ok-write_batch) → ring_reads c.args.self c.args.ring.now ≡ true
+    → FrozenTaken c.args.self c.args.ring.now c.args.out.now
+taken c reads =
     record {
       hangs = c.in_ok-ring_checked.ensures;
       some_entries = c.if-self-eq0.false;
-      read =
-          (ring_read c.args.self c.args.ring.now c.ring_reads-read.result RingUnreadable c.ring_reads-read.ensures _
-          c.in_ok-of.ensures.value).0;
+      read = reads;
       room = c.in_ok-write_batch.ensures.0;
     }
 
+pub from_start-pending-requires : goal.from_start-pending-requires
+from_start-pending-requires c =
+    omega (
+      arith,
+      (ring_told c.args.self c.args.ring.now c.in_ok-ring_checked.ensures).1,
+      counted (goal.at.from_start-pending-requires c).In_ok-ring_checked,
+    )
+
 pub ring_reads-read-requires : goal.ring_reads-read-requires
 ring_reads-read-requires c =
+    let k = counted (goal.at.ring_reads-read-requires c).In_ok-ring_checked in
     record {
-      start_in_bounds = omega (
+      lists_inside = omega (
         arith,
-        (ring_told c.args.self c.args.ring.now
-            c.in_ok-ring_checked.ensures).1,
-        counted (goal.at.ring_reads-read-requires c).In_ok-ring_checked,
+        (ring_told c.args.self c.args.ring.now c.in_ok-ring_checked.ensures).1,
+        long (goal.at.ring_reads-read-requires c).After-from_start-pending,
+        k,
       );
-      entries_in_bounds = omega (
-        arith,
-        (ring_told c.args.self c.args.ring.now
-            c.in_ok-ring_checked.ensures).1,
-        counted (goal.at.ring_reads-read-requires c).In_ok-ring_checked,
-      );
+      entries_bound = omega (arith, k);
     }
 
 pub returns-in_err-of : goal.returns-in_err-of
-unfolding frozen_read memory_read
 returns-in_err-of c =
     let p = err_from_is_err_and c.from_residual-in_err-of.result c.from_residual-in_err-of.ensures.1 in
-    let none = ring_unread c.args.self c.args.ring.now c.ring_reads-read.result RingUnreadable
-    c.ring_reads-read.ensures _ c.in_err-of.ensures.value in
+    let none = ring_unread c.args.self c.args.ring.now _ c.ring_reads-read.result RingUnreadable
+    c.from_start-pending.ensures c.ring_reads-read.ensures _ c.in_err-of.ensures.value in
     let told = frozen_refused c.args.self c.args.ring.now c.args.out.now 15
     (c.in_ok-ring_checked.ensures, (ap not (ne_eqb _ _ c.if-self-eq0.false), none.0)) in
     record { result_value = rw (p.1, p.2, none.1) told.0; out_new = told.1 }
@@ -68,7 +76,7 @@ returns-in_err-of c =
 pub write_batch-requires : goal.write_batch-requires
 write_batch-requires c =
     let told = frozen_fits c.args.self c.args.ring.now c.in_ok-ring_checked.ensures c.if-self-eq0.false in
-    record { start_in_bounds = told.0; bytes_bound = told.1.0; entries_bound = told.1.1 }
+    record { list_inside = rw c.from_start-pending.ensures told.0; bytes_bound = told.1.0; entries_bound = told.1.1 }
 
 pub returns-in_err-write_batch : goal.returns-in_err-write_batch
 returns-in_err-write_batch c =
@@ -94,8 +102,8 @@ overflow_add-result c = omega (arith, counted (goal.at.overflow_add-result c).In
 pub returns : goal.returns
 returns c =
     let told = frozen_done c.args.self c.args.ring.now c.args.out.now
-    (taken (goal.at.returns c).In_ok-write_batch) _ c.advance.result _
+    (taken (goal.at.returns c).In_ok-write_batch (read (goal.at.returns c).In_ok-of).0) _ c.advance.result _
     (λ i. (c.type_inv.ring i).fits)
-    c.in_ok-write_batch.ensures.1 (c.advance.ensures.value
+    (rw c.from_start-pending.ensures at c.in_ok-write_batch.ensures.1) (c.advance.ensures.value
     (omega (arith, counted (goal.at.returns c).In_ok-ring_checked))) (read (goal.at.returns c).In_ok-of).1 in
     record { result_value = told.0; out_new = told.1 }

@@ -6,7 +6,7 @@ use native.Mathlib.Omega.{arith}
 use Rattle.std.proofs.lemmas.Result.{err_from_is_err_and}
 use Rattle.refusals.specs.Outcome.{Outcome, gives, into}
 use Rattle.refusals.specs.Answers.{outcome_of}
-use Rattle.refusals.proofs.Tests.{passed}
+use Rattle.refusals.proofs.Tests.{told}
 use Rattle.journal_range.specs.declared.RangeTotals.{RangeTotals}
 use Rattle.journalist.proofs.Recovering.{loaded, LoadAnswered, load_told}
 use Rattle.journalist.proofs.Journalist.parse_journals.Goals as goal
@@ -18,7 +18,7 @@ answered : (c : After-load) (o : Outcome RangeTotals) → o ≡ outcome_of c.loa
 answered c o e =
     let a = c.args in
     load_told a.self a.front.now a.back.now a.replay.now (4064 * c.unwrap_or-f.result - 0)
-    (4064 * c.unwrap_or-b.result - 0) (passed c.sides_hang.ensures c.if-not-sides_hang.false-raw)
+    (4064 * c.unwrap_or-b.result - 0) (told c.sides_hang.ensures c.if-not-sides_hang.false)
     (omega (arith, c.unwrap_or-f.ensures)) (omega (arith, c.unwrap_or-b.ensures)) o
     (e ∙ c.load.ensures.answer) _ c.load.ensures.buffer
 

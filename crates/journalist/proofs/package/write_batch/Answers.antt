@@ -7,13 +7,13 @@ use Rattle.journalist.proofs.package.write_batch.Goals as goal
 pub returns-then-is_err : goal.returns-then-is_err
 returns-then-is_err c =
     let a = c.args in
-    let short = batch_unwritten a.ring.now a.start a.list.bytes a.list.entries a.blocks a.out.now _ _ _
-    c.from_start-forms.ensures c.requires.start_in_bounds.1 c.requires.bytes_bound c.marshall.ensures
+    let short = batch_unwritten a.list.bytes a.list.entries a.blocks a.out.now _ _ _
+    c.requires.list_inside c.requires.bytes_bound c.marshall.ensures
     (sym c.is_err.ensures.value ∙ c.if-is_err.true) in (short.0, refl, short.1)
 
 pub returns : goal.returns
 returns c =
     let a = c.args in
-    batch_written a.ring.now a.start a.list.bytes a.list.entries a.blocks a.out.now _ _ _
-    c.from_start-forms.ensures c.requires.start_in_bounds.1 c.requires.bytes_bound c.marshall.ensures
+    batch_written a.list.bytes a.list.entries a.blocks a.out.now _ _ _
+    c.requires.list_inside c.requires.bytes_bound c.marshall.ensures
     (sym c.is_err.ensures.value ∙ c.if-is_err.false)

@@ -12,11 +12,11 @@ use Rattle.marshalling.proofs.fill.fill_payload.Goals as goal
 pub returns-clause-dst_new : goal.returns-clause-dst_new
 returns-clause-dst_new c =
     let a = c.args in
-    let h = a.header.now in
-    let eight : length h ≡ 8 = c.told-header in
+    let h = a.batch.now.header in
+    let eight : length h ≡ 8 = omega arith in
     let front = take (8 - c.min.result) (drop c.min.result h) in
     let left = rw eight at (after_least h a.from c.min.result (rw eight c.min.ensures)) in
     payload_filled a.dst.now h front _ a.from left (omega (arith, length-take {A = ℕ}))
     (put_mid_front a.dst.now front _ _ c.copy_from_slice.ensures.after (omega arith))
-    c.fill_runs.new.dst (forms_bytes a.forms.now) c.saturating_sub.result (rw eight c.saturating_sub.ensures)
+    c.fill_runs.new.dst (forms_bytes a.batch.now.forms) c.saturating_sub.result (rw eight c.saturating_sub.ensures)
     c.fill_runs.ensures.dst_new

@@ -80,5 +80,4 @@ returns c =
       dst_new = runs_done (joined f.ring) a.dst.now c.loop-filled.dst f.at f.len a.done end there (omega arith)
           so_far.3 c.zero_fill.new.dst m c.zero_fill.ensures;
       takes = takes_block f.ring.front.now f.ring.back.now f.at f.len f.inside a.done end _ ends so_far.4;
-      upper_bound = omega arith;
     }

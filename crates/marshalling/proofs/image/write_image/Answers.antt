@@ -14,7 +14,7 @@ use Rattle.marshalling.proofs.image.write_image.Goals as goal
 pub returns : goal.returns
 returns c =
     let a = c.args in
-    let f = a.forms.now in
+    let f = a.forms in
     let long : length (forms_bytes f) ≡ f.len =
     length-take-le f.len (drop f.at (joined f.ring)) (rw (length-drop, length-append) (omega (arith, f.inside))) in
     let all = takes_all f.ring.front.now f.ring.back.now f.at f.len f.inside (4064 * a.blocks - 8)

@@ -4,7 +4,7 @@ use mathlib.Core.Bool.{true, not}
 use mathlib.Core.Path.{◌≡◌, refl, sym, ap}
 use native.Mathlib.Omega.{arith}
 use borrow.Author.Tests.{eq-eqb}
-use Rattle.refusals.proofs.Tests.{passed, failed}
+use Rattle.refusals.proofs.Tests.{told}
 use Rattle.replay_cursor.specs.Cursor.{lies_in}
 use Rattle.replay_cursor.proofs.Rows.{place_exactly, lies_facts, place_given}
 use Rattle.replay_cursor.proofs.Replay.top_entry.Goals as goal
@@ -12,11 +12,11 @@ use Rattle.replay_cursor.proofs.Replay.top_entry.Goals.{Else-not-lies_in}
 
 lies : (c : Else-not-lies_in) → lies_in c.args.self
     c.args.replay.now ≡ true
-lies c = passed c.lies_in.ensures c.if-not-lies_in.false-raw
+lies c = told c.lies_in.ensures c.if-not-lies_in.false
 
 pub returns-then-not-lies_in : goal.returns-then-not-lies_in
 returns-then-not-lies_in c =
-    sym ((place_exactly _ _).refused 2 (failed c.lies_in.ensures c.if-not-lies_in.true-raw))
+    sym ((place_exactly _ _).refused 2 (told c.lies_in.ensures c.if-not-lies_in.true))
 
 pub returns-then-self-eq0 : goal.returns-then-self-eq0
 returns-then-self-eq0 c =

@@ -17,7 +17,7 @@ pub returns-then-is_none-clause-why : goal.returns-then-is_none-clause-why
 returns-then-is_none-clause-why c =
     let card = c.args.self.now in
     rw c.into-then-is_none.ensures
-    (release_14 card.n card.bytes.now card.few card.is (omega (arith, c.of-start.ensures.len, c.if-len-lt1.false))
+    (release_14 card.n card.bytes.now card.few card.is (omega (arith, c.of-start.ensures.len, c.if-len-eq0.false))
     (sym c.live-live.ensures.lowest ∙ sym c.lowest_damaged.ensures ∙ c.in_default.is)
     (payload_unread _ _ c.live-live.ensures.payload _ c.range_in.ensures c.if-is_none.ensures))
 
@@ -26,7 +26,7 @@ given : (c : After-advance-next)
 given c =
     let card = c.args.self.now in
     payload_read _ _ c.live-live.ensures.payload _ c.range_in.ensures c.if-is_none.ensures λ old reads.
-    release_first card.n card.bytes.now card.few card.is (omega (arith, c.of-start.ensures.len, c.if-len-lt1.false))
+    release_first card.n card.bytes.now card.few card.is (omega (arith, c.of-start.ensures.len, c.if-len-eq0.false))
     (sym c.live-live.ensures.lowest ∙ sym c.lowest_damaged.ensures ∙ c.in_default.is) old reads _ _
     c.live-live.ensures.payload c.word_at-dropped.ensures
 
