@@ -16,7 +16,7 @@ use Rattle.journal_image.specs.Strip.{output_of}
 use Rattle.card.specs.Card.{live_image}
 use Rattle.card.specs.Calls.{find_call, found_output, store_call, with_store, stored, release_call, without_first}
 use Rattle.card.specs.Calls.{released}
-use Rattle.journal_c.specs.Numbers.{answers_with}
+use Rattle.record_words.specs.AnswerWords.{answers_with}
 use Rattle.journal_c.specs.Cards.{block_named}
 
 -- The block that is named.

@@ -2,7 +2,7 @@
 use Rattle.std.specs.Prelude.{List, ℕ}
 use Rattle.refusals.specs.Outcome.{Outcome, gives, refuses, refuses_block, into}
 use Rattle.card.specs.Calls.{find_call, store_call, release_call}
-use Rattle.journal_c.specs.Numbers.{answers_with, number_words, test_words}
+use Rattle.record_words.specs.AnswerWords.{answers_with, number_words, test_words}
 
 -- how many blocks were found
 abbrev pub card_find : (n : ℕ) (card out answer : List ℕ) → Outcome (List ℕ)

@@ -5,10 +5,11 @@ ghost use Rattle.refusals.specs.Outcome.{into, bytes_after};
 ghost use Rattle.card.specs.Calls.{format_call, formatted, found_output, stored, released};
 ghost use Rattle.refusals.specs.Answers.{image_outcome_of};
 ghost use Rattle.record_words.specs.Calls.{code_of};
-ghost use Rattle.journal_c.specs.Numbers.{output_after, answers_with, number_words, test_words};
+ghost use Rattle.record_words.specs.AnswerWords.{output_after, answers_with, number_words, test_words};
 ghost use Rattle.journal_c.specs.Cards.{block_named, card_find, card_store, card_release};
 
-use crate::answers::{number, reply};
+use crate::number;
+use record_words::reply;
 
 // Makes the live interval (0, 0): 1, 18.
 #[unsafe(no_mangle)]

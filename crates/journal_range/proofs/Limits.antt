@@ -35,7 +35,7 @@ within_from limit zero (b ∷ bs) es e =
     subst (AllWithinAt limit) ee
     (within_append limit es₁ es₂ (entries_within limit hdr.0 _ es₁ e₁) (within_from limit (hdr.1 - 1) bs es₂ e₂))
 
-range_within : (limit : ℕ) (jr : JournalRange) (es : List JournalEntry) → parse_journal_range_at limit jr ≡ Some es
+pub range_within : (limit : ℕ) (jr : JournalRange) (es : List JournalEntry) → parse_journal_range_at limit jr ≡ Some es
     → AllWithinAt limit es
 unfolding parse_journal_range_at
 range_within limit jr es e = within_from limit 0 jr es e

@@ -9,12 +9,15 @@
 // Words behind them are neither read nor changed.
 #![tactic(auto)]
 
+mod answers;
+
 ghost use Rattle.std.specs.Prelude.{◌≡◌, cond, ◌++◌, ◌≤◌, length, drop, MatchResult, OnOk, Some, None};
 ghost use Rattle.refusals.specs.declared.Refusal.TheVariants.{CountsDisagree};
 ghost use Rattle.refusals.specs.Answers.{outcome_of};
 ghost use Rattle.record_words.specs.Words.{word_count, words_of, side_reads, side_of, decode_of};
 ghost use Rattle.record_words.specs.Calls.{code_of, fitted_to, words_after};
 
+pub use answers::reply;
 use journalist::{Journalist, Last, Pending};
 use refusals::Refusal;
 use replay_cursor::Replay;

@@ -44,6 +44,10 @@ pub enum Refusal {
     CardUnformed = 18,
     // no room on the card
     CardFull = 19,
+    // a clone would make a key over 512 bytes
+    KeyTooLong = 20,
+    // the resulting rows are longer than the table
+    TableFull = 21,
 }
 
 // The number in the table.

@@ -29,7 +29,7 @@ module _ (d : List ℕ) (at : ℕ) (x : List ℕ) (fits : at + length x ≤ leng
   pub length_splice : length (splice d at x) ≡ length d
   length_splice = ap length split ∙ simp (length-append, length-take, length-drop) (omega arith)
 
-  take_splice : take (at + length x) (splice d at x) ≡ take at d ++ x
+  pub take_splice : take (at + length x) (splice d at x) ≡ take at d ++ x
   take_splice =
       ap (take (at + length x)) split ∙ take_at (take at d ++ x) (drop (at + length x) d) (at + length x) head_long
 

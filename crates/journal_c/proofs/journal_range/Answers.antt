@@ -2,7 +2,7 @@
 use mathlib.Core.Path.{sym, ap, ◌∙◌}
 use mathlib.Core.List.{◌++◌}
 use Rattle.record_words.specs.Calls.{code_of}
-use Rattle.journal_c.specs.Numbers.{output_after}
+use Rattle.record_words.specs.AnswerWords.{output_after}
 use Rattle.journal_c.proofs.Totals.{unread, read}
 use Rattle.journal_c.proofs.journal_range.Goals as goal
 

@@ -5,7 +5,7 @@ use native.Mathlib.Omega.{arith}
 use Rattle.refusals.specs.Answers.{image_outcome_of}
 use Rattle.card.specs.Calls.{find_call}
 use Rattle.card.proofs.CallLaws.{find_below}
-use Rattle.journal_c.specs.Numbers.{number_words}
+use Rattle.record_words.specs.AnswerWords.{number_words}
 use Rattle.journal_c.proofs.CardCalls.{named_small, short_kept, long_changed, found_keeps}
 use Rattle.journal_c.proofs.cards.journal_card_find.Goals as goal
 use Rattle.journal_c.proofs.cards.journal_card_find.Goals.{In-Err, then-answer-lt1, else-answer-lt1}

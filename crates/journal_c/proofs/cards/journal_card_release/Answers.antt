@@ -5,7 +5,7 @@ use native.Mathlib.Omega.{arith}
 use Rattle.refusals.specs.Answers.{image_outcome_of}
 use Rattle.card.specs.Calls.{release_call}
 use Rattle.card.proofs.ReleaseLaws.{release_below}
-use Rattle.journal_c.specs.Numbers.{number_words}
+use Rattle.record_words.specs.AnswerWords.{number_words}
 use Rattle.journal_c.proofs.CardCalls.{named_small, short_kept, long_changed, released_keeps}
 use Rattle.journal_c.proofs.cards.journal_card_release.Goals as goal
 use Rattle.journal_c.proofs.cards.journal_card_release.Goals.{In-Err, then-answer-lt1, else-answer-lt1}

@@ -7,7 +7,7 @@ use native.Mathlib.Omega.{arith}
 use Rattle.refusals.specs.Answers.{image_outcome_of}
 use Rattle.card.specs.Calls.{store_call}
 use Rattle.card.proofs.StoreLaws.{store_below}
-use Rattle.journal_c.specs.Numbers.{test_words}
+use Rattle.record_words.specs.AnswerWords.{test_words}
 use Rattle.journal_c.proofs.CardCalls.{named_small, named_any, short_kept, long_changed, stored_keeps}
 use Rattle.journal_c.proofs.cards.journal_card_store.Goals as goal
 use Rattle.journal_c.proofs.cards.journal_card_store.Goals.{In-Err, then-answer-lt1, else-answer-lt1}

@@ -1,0 +1,9 @@
+pub mod Putting
+pub mod Moving
+pub mod Stepping
+pub mod Inserting
+pub mod Cloning
+pub mod Looking
+pub mod Found
+pub mod Accepted
+pub mod Numbers

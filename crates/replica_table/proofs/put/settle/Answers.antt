@@ -1,0 +1,14 @@
+-- `settle` meets its contract: what was put from the front on is brought back whole. Assumes nothing.
+use mathlib.Core.Path.{◌∙◌}
+use native.Mathlib.Omega.{arith}
+use Rattle.journal_entry.specs.Places.{part}
+use Rattle.replica_table.proofs.Putting.{settled, brought_back}
+use Rattle.replica_table.proofs.put.settle.Goals as goal
+
+pub returns-clause-table_new : goal.returns-clause-table_new
+returns-clause-table_new c =
+    let x = c.args in
+    settled x.table.now c.put_bytes-total.new.dst c.put_bytes.new.dst c.zero_fill.new.dst c.put_bytes-total.result
+    (omega arith) (omega arith) c.put_bytes.ensures.dst_new c.zero_fill.ensures
+    ∙ brought_back x.table.now x.work.now (part x.table.now x.end x.used) x.at c.put_bytes-total.new.dst
+    c.put_bytes-total.result c.put_bytes-total.ensures.value (omega arith) c.put_bytes-total.ensures.dst_new

@@ -1,0 +1,12 @@
+pub mod Reaches
+pub mod Ascending
+pub mod Lookups
+pub mod Together
+pub mod Canonical
+pub mod Tables
+pub mod Replayed
+pub mod RowPlaces
+pub mod Spans
+pub mod Skipping
+pub mod Rests
+pub mod Finding
