@@ -22,7 +22,7 @@
 extern "C" {
 #endif
 
-#define JOURNAL_LIBRARY_VERSION "0.6.0"
+#define JOURNAL_LIBRARY_VERSION "0.7.0"
 
 /* A code's number; and of JOURNAL_CHECKSUM_DIFFERS the lowest block that differs. */
 #define JOURNAL_NUMBER(code) ((code) & 255)
@@ -30,7 +30,7 @@ extern "C" {
 
 /* Why a call says no. */
 #define JOURNAL_SIZE_OUT_OF_RANGE 1   /* N is not 1 to JOURNAL_MOST_BLOCKS, or R more than JOURNAL_MOST_RING */
-#define JOURNAL_COUNTS_DISAGREE 2     /* the record is damaged, or a lent buffer is not as long as it says */
+#define JOURNAL_COUNTS_DISAGREE 2     /* a record or table is damaged, or a lent buffer is not as long as it says */
 #define JOURNAL_FIRST_TOO_LONG 3      /* more than JOURNAL_FIRST_LIMIT first bytes */
 #define JOURNAL_SECOND_TOO_LONG 4     /* more than JOURNAL_VALUE_LIMIT in an insert, JOURNAL_TO_LIMIT in a clone */
 #define JOURNAL_REGION_FULL 5         /* no room in the region's N blocks */
@@ -48,6 +48,8 @@ extern "C" {
 #define JOURNAL_NO_FREEZE 17          /* no freeze is remembered */
 #define JOURNAL_CARD_UNFORMED 18      /* a card of another length, or whose block 0 is not of its form */
 #define JOURNAL_CARD_FULL 19          /* no room on the card for the image's blocks */
+#define JOURNAL_KEY_TOO_LONG 20       /* a clone would make a key of more than JOURNAL_FIRST_LIMIT bytes */
+#define JOURNAL_TABLE_FULL 21         /* no room in the replica's table for the resulting rows */
 
 /* Sizes and limits. */
 #define JOURNAL_BLOCK 4096            /* bytes of a block of an image: 32 of checksum, then */

@@ -35,6 +35,8 @@ const REFUSALS: &[(&str, Refusal)] = &[
     ("NO_FREEZE", Refusal::NoFreeze),
     ("CARD_UNFORMED", Refusal::CardUnformed),
     ("CARD_FULL", Refusal::CardFull),
+    ("KEY_TOO_LONG", Refusal::KeyTooLong),
+    ("TABLE_FULL", Refusal::TableFull),
 ];
 
 const PLACES: &[(&str, usize)] = &[
@@ -114,7 +116,7 @@ fn codes() {
     let named = Refusal::of_code(12 + 256 * 300);
     assert_eq!(named, Some(Refusal::ChecksumDiffers { block: 300 }));
     assert_eq!(named.unwrap().to_string(), "the checksum of block 300 differs");
-    for code in [0, 20, 255, 256, 1 + 256, 11 + 256, 13 + 256, u64::MAX] {
+    for code in [0, 22, 255, 256, 1 + 256, 11 + 256, 13 + 256, u64::MAX] {
         assert_eq!(Refusal::of_code(code), None, "{code}");
     }
 }

@@ -5,8 +5,9 @@
 //! from each other.
 use crate::raw;
 
-/// A slice that is lent, by its pointer.
-trait Lent {
+/// A slice that is lent, by its pointer. The replica's crate has its functions by this and by `over_slices` too.
+#[doc(hidden)]
+pub trait Lent {
     type Pointer;
     fn pointer(&mut self) -> Self::Pointer;
 }
@@ -27,6 +28,8 @@ impl<T> Lent for &mut [T] {
 
 /// Functions that take slices, then numbers; or numbers, then an answer; or a number, then slices, with another number
 /// before an answer. C gets a slice as its pointer and its length.
+#[doc(hidden)]
+#[macro_export]
 macro_rules! over_slices {
     ($($name:ident = $raw:ident($($slice:ident: $kind:ty),+ $(; $($number:ident),+)?);)+) => {$(
         pub fn $name($(mut $slice: $kind,)+ $($($number: u64),+)?) -> u64 {

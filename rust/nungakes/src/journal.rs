@@ -86,6 +86,11 @@ impl Journal {
         &self.words
     }
 
+    /// The same, to lend to calls that are not this crate's. Whatever they leave may be taken for a record.
+    pub fn words_mut(&mut self) -> &mut [u64; WORDS] {
+        &mut self.words
+    }
+
     /// Puts an insert behind the in-memory list: 2, 3, 4, 5, 6. Only appends write the ring.
     pub fn append_insert(
         &mut self,

@@ -63,7 +63,7 @@ mod words;
 
 pub use image::{checksum, crc32c, range, strip, Totals};
 pub use journal::{Entry, Journal, Kind, Piece, Top};
-pub use refusal::Refusal;
+pub use refusal::{answered, Refusal};
 pub use words::*;
 
 /// The library's version, as c/journal.h has it.

@@ -27,6 +27,8 @@ pub enum Refusal {
     NoFreeze,
     CardUnformed,
     CardFull,
+    KeyTooLong,
+    TableFull,
 }
 
 use Refusal::*;
@@ -54,6 +56,8 @@ impl Refusal {
             NoFreeze => 17,
             CardUnformed => 18,
             CardFull => 19,
+            KeyTooLong => 20,
+            TableFull => 21,
         }
     }
 
@@ -79,6 +83,8 @@ impl Refusal {
             17 => NoFreeze,
             18 => CardUnformed,
             19 => CardFull,
+            20 => KeyTooLong,
+            21 => TableFull,
             _ => return None,
         })
     }
@@ -88,7 +94,9 @@ impl fmt::Display for Refusal {
     fn fmt(&self, f: &mut fmt::Formatter) -> fmt::Result {
         let text = match self {
             SizeOutOfRange => "a region has 1 to 1,024 blocks, a ring at most 8,388,608 bytes",
-            CountsDisagree => "the record is damaged, or a lent buffer is not as long as it says",
+            CountsDisagree => {
+                "a record or table is damaged, or a lent buffer is not as long as it says"
+            }
             FirstTooLong => "more than 512 first bytes",
             SecondTooLong => "more than 16,384 bytes of a value, or 512 of a clone's to",
             RegionFull => "no room in the region's blocks",
@@ -106,6 +114,8 @@ impl fmt::Display for Refusal {
             NoFreeze => "no freeze is remembered",
             CardUnformed => "the card is of another length, or its block 0 is not of its form",
             CardFull => "no room on the card for the image's blocks",
+            KeyTooLong => "the clone would make a key of more than 512 bytes",
+            TableFull => "no room in the replica's table for the resulting rows",
         };
         f.write_str(text)
     }
@@ -113,8 +123,9 @@ impl fmt::Display for Refusal {
 
 impl core::error::Error for Refusal {}
 
-/// What a code says.
-pub(crate) fn answered(code: u64) -> Result<(), Refusal> {
+/// What a code says: that of [`calls`](crate::calls), or of another archive with these numbers. Panics where it is
+/// neither 0 nor a refusal's.
+pub fn answered(code: u64) -> Result<(), Refusal> {
     if code == 0 {
         return Ok(());
     }
