@@ -1,6 +1,7 @@
 //! Each number of each call's row, together with any of the others: the first of the row is given.
 use crate::{empty, forms, weighing, with, Case, Table};
 use journal_tests::call::{Call::*, QUERIES};
+use journal_tests::faults;
 use journal_tests::memory::Lent;
 use journal_tests::model::block::{BLOCK, PAYLOAD};
 use journal_tests::model::record::{LAYOUT, WORDS};
@@ -13,28 +14,16 @@ pub fn run(table: &mut Table) {
     }
 }
 
-/// What makes the condition of a number hold.
-pub type Fault = fn(&mut Case);
+pub type Fault = faults::Fault<Case>;
 
 impl Table {
-    /// Each number of the call's row is made to hold in each of these ways, together with any of the
-    /// others in any of theirs: the first of its row is given. The ways are tried in the order of
-    /// `faults`, so that a later one may look at what earlier ones did.
+    /// Each number of the call's row is made to hold together with any of the others: the first of its row is
+    /// given.
     pub fn in_order(&mut self, base: Case, faults: &[(u64, &[Fault])]) {
         let row = base.call.numbers();
         let numbers: BTreeSet<u64> = faults.iter().map(|(code, _)| code % 256).collect();
         assert!(numbers.iter().eq(&row.iter().copied().collect::<BTreeSet<u64>>()), "{row:?}");
-        let mut cases = vec![(base, vec![])];
-        for (code, ways) in faults {
-            for (case, codes) in cases.clone() {
-                cases.extend(ways.iter().map(|way| {
-                    let mut case = case.clone();
-                    way(&mut case);
-                    (case, [&codes[..], &[*code]].concat())
-                }));
-            }
-        }
-        for (case, codes) in cases {
+        for (case, codes) in faults::together(base, faults) {
             let place = |code: &u64| row.iter().position(|number| *number == code % 256);
             let first = codes.into_iter().min_by_key(place);
             self.refused(&case, first.unwrap_or(0));
