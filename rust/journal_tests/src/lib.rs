@@ -6,4 +6,5 @@ pub mod guarded;
 pub mod memory;
 pub mod model;
 pub mod random;
+pub mod replica;
 pub mod tally;

@@ -9,4 +9,5 @@ pub mod places;
 pub mod plain;
 pub mod reading;
 pub mod record;
+pub mod replica;
 pub mod writing;

@@ -4,6 +4,7 @@
 mod card;
 mod forms;
 mod record;
+pub mod replica;
 
 pub use super::block::strip;
 use super::block::{BLOCK, PAYLOAD};
@@ -301,12 +302,16 @@ pub fn pop(words: &mut [u64], replay: &[u8]) -> u64 {
 
 fn try_pop(words: &mut [u64], replay: &[u8]) -> Result<(), u64> {
     let record = Record::of(words)?;
-    let weight = top_lengths(&record, replay)?.weight();
+    let after = after_pop(&record, top_lengths(&record, replay)?.weight())?;
+    words[PLACE..PLACE + 3].copy_from_slice(&after);
+    Ok(())
+}
+
+/// The replay's words behind an entry of this weight.
+fn after_pop(record: &Record, weight: usize) -> Result<[u64; 3], u64> {
     let mut rest = record.replay;
     rest.bytes -= weight;
     rest.entries -= 1;
     require(rest.hangs(), 14)?;
-    let after = [record.place + weight, rest.bytes, rest.entries].map(|n| n as u64);
-    words[PLACE..PLACE + 3].copy_from_slice(&after);
-    Ok(())
+    Ok([record.place + weight, rest.bytes, rest.entries].map(|n| n as u64))
 }
