@@ -30,6 +30,7 @@ macro_rules! row {
         }
     };
 }
+pub(crate) use row;
 
 /// The most blocks of a region, and those of the largest image: front and back together.
 const MOST: usize = 1_024;
@@ -38,7 +39,7 @@ const LONGEST_RING: usize = 8_388_608;
 const MILLION: usize = 1_000_000;
 
 /// A slice as C gets it: a pointer and a count.
-fn lent<T>(s: &[T]) -> [u64; 2] {
+pub fn lent<T>(s: &[T]) -> [u64; 2] {
     [s.as_ptr() as u64, s.len() as u64]
 }
 
@@ -47,7 +48,7 @@ pub fn filled<T>(s: &mut [T]) -> [u64; 2] {
 }
 
 /// An empty record with other words at these places.
-fn record(n: usize, r: usize, others: &[(usize, usize)]) -> Option<[u64; WORDS]> {
+pub fn record(n: usize, r: usize, others: &[(usize, usize)]) -> Option<[u64; WORDS]> {
     let mut words = [0; WORDS];
     words[..3].copy_from_slice(&[LAYOUT, n as u64, r as u64]);
     for &(at, word) in others {

@@ -1,10 +1,11 @@
 //! How many bytes of stack each exported call uses, at little and at very much. The return address and
 //! the words passed on the stack are in the figure; what is reserved and never written is not.
 //!
-//! `stack` fails where a call of c/journal.h is not measured. `stack --check` fails also where one uses
+//! `stack` fails where a call of c/journal.h or c/replica.h is not measured. `stack --check` fails also where one uses
 //! more than 2,048 bytes, or not the same at very much as at little.
 mod calls;
 mod depth;
+mod replica;
 
 use calls::{Call, Row};
 use std::collections::BTreeSet;
@@ -12,10 +13,12 @@ use std::process::ExitCode;
 
 const LIMIT: usize = 2_048;
 
-/// The calls that the header declares: their types start lines.
+/// The calls that the headers declare: their types start lines.
 fn declared() -> BTreeSet<&'static str> {
-    let header = include_str!("../../../../../c/journal.h");
-    let prototypes = header.lines().filter(|line| line.starts_with("uint"));
+    let [journal, replica] =
+        [include_str!("../../../../../c/journal.h"), include_str!("../../../../../c/replica.h")];
+    let lines = journal.lines().chain(replica.lines());
+    let prototypes = lines.filter(|line| line.starts_with("uint"));
     let name = |line: &'static str| line.split('(').next()?.split(' ').next_back();
     prototypes.filter_map(name).collect()
 }
@@ -29,9 +32,9 @@ fn main() -> ExitCode {
     };
     depth::check_itself();
     let mut unmeasured = declared();
-    assert!(!unmeasured.is_empty(), "the header declares nothing");
+    assert!(!unmeasured.is_empty(), "the headers declare nothing");
     let mut within = true;
-    calls::each(&mut |Row { name, function, calls }| {
+    let mut measure = |Row { name, function, calls }: Row| {
         unmeasured.remove(name);
         let mut figures = BTreeSet::new();
         for Call { what, record, others } in calls {
@@ -53,7 +56,9 @@ fn main() -> ExitCode {
             println!("stack: {name} differs with the size");
             within = false;
         }
-    });
+    };
+    calls::each(&mut measure);
+    replica::each(&mut measure);
     for name in &unmeasured {
         println!("stack: {name} is not measured");
     }
