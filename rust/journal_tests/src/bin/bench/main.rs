@@ -8,6 +8,7 @@ mod appends;
 mod cards;
 mod checksums;
 mod pieces;
+mod replica;
 mod small;
 
 use journal_tests::model::crc;
@@ -124,6 +125,7 @@ fn main() {
     let tiny = Pieces::new(1_024, &[3]);
     let small = small::Small::new();
     let cards = [1, 16, 512].map(cards::Cards::new);
+    let tables = [4 << 10, 64 << 10, 1 << 20].map(replica::Tables::new);
     let mut cases = checksums::cases(&buffer);
     cases.extend(appends.iter().map(|appends| appends.case()));
     for of in pieces::EACH_SIZE {
@@ -133,6 +135,7 @@ fn main() {
     cases.extend(of_tiny.map(|case| Case { name: format!("tiny {}", case.name), ..case }));
     cases.extend(small.cases());
     cases.extend(cards.iter().flat_map(|cards| cards.cases()));
+    cases.extend(tables.iter().flat_map(|tables| tables.cases()));
 
     println!("                                         best                      rattle / this");
     println!("case                      way         ns/call  ns/byte    MB/s     best  middle");
