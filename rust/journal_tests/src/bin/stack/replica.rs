@@ -33,7 +33,9 @@ impl Table {
 
 fn tables() -> [Table; 3] {
     let few = [&b""[..], b"a", b"ab", b"b"].map(|key| (key.to_vec(), b"value".to_vec()));
-    let many = (0..300_000_u32).map(|k| (k.to_be_bytes().to_vec(), vec![7]));
+    // half of them under "a", which a clone copies, and half under "b"
+    let key = |k: usize| format!("{}{k}", ["a", "b"][k % 2]).into_bytes();
+    let many = (0..300_000).map(|k| (key(k), vec![7]));
     let largest = (0..100).map(|k| (vec![k; 511], vec![k; 16_384]));
     [
         Table::new("four rows", few.into()),
@@ -58,7 +60,7 @@ pub fn each(measure: &mut dyn FnMut(Row)) {
     };
     measure(row!(replica_lookup, tables.iter_mut().map(lookup)));
     for (what, is_clone) in [("an insert", false), ("a clone", true)] {
-        let [first, second] = [b"ab", b"bb"].map(Vec::from);
+        let [first, second] = [b"a", b"b"].map(Vec::from);
         let entry = Entry { is_clone, first, second }.wire_form();
         let one = record(1, 0, &[(11, entry.len()), (12, 1)]);
         let replay = |table: &mut Table| {
