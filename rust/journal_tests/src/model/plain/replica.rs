@@ -4,7 +4,7 @@ use super::super::reading::{CLONED, FIRST, INSERTED};
 use super::forms::Lengths;
 use super::record::{Record, PLACE};
 use super::{after_pop, code, require, top_lengths};
-use std::cmp::Ordering::{Equal, Greater, Less};
+use std::cmp::Ordering::{self, Equal, Greater, Less};
 use std::ops::Range;
 
 /// Whether all are zeros, sixteen at a time.
@@ -32,6 +32,45 @@ fn each_row<'a>(
     }
     require(zeros(&table[at..]), 2)?;
     Ok(at)
+}
+
+/// The rows that a call is about. Where there is none, the place is that behind the smaller keys.
+#[derive(Default)]
+struct Line {
+    place: Range<usize>,
+    rows: usize,
+    /// The length of the longest key, or 0.
+    longest: usize,
+    /// The rows to come are behind the line.
+    passed: bool,
+}
+
+impl Line {
+    /// Sees the next row; `order` compares its key with those of the line.
+    fn see(&mut self, key: &[u8], place: &Range<usize>, order: impl FnOnce() -> Ordering) {
+        if self.passed {
+            return;
+        }
+        match order() {
+            Less => self.place = place.end..place.end,
+            Equal => {
+                self.place.end = place.end;
+                self.rows += 1;
+                self.longest = self.longest.max(key.len());
+            }
+            Greater => self.passed = true,
+        }
+    }
+
+    /// The same of a line that is one key.
+    fn see_one(&mut self, own: &[u8], key: &[u8], place: &Range<usize>) {
+        self.see(key, place, || key.cmp(own));
+    }
+
+    /// The same of the keys that begin with a prefix.
+    fn see_under(&mut self, prefix: &[u8], key: &[u8], place: &Range<usize>) {
+        self.see(key, place, || key[..key.len().min(prefix.len())].cmp(prefix));
+    }
 }
 
 /// Some rows go out of the table, and others come in there.
@@ -104,43 +143,20 @@ fn try_insert(
     key: &[u8],
     value: &[u8],
 ) -> Result<(), u64> {
-    let mut out = 0..0;
-    let end = each_row(rows, table, |other, place| match other.cmp(key) {
-        Less => out = place.end..place.end,
-        Equal => out = place,
-        Greater => (),
-    })?;
+    let mut own = Line::default();
+    let end = each_row(rows, table, |other, place| own.see_one(key, other, &place))?;
     require(work.len() == table.len(), 2)?;
     require(key.len() <= FIRST as usize, 3)?;
     require(value.len() <= INSERTED as usize, 4)?;
-    let rows_then = rows[0] + u64::from(out.is_empty());
-    let change = Change { out, bytes: 8 + key.len() + value.len(), end, rows: rows_then };
+    let change = Change {
+        out: own.place,
+        bytes: 8 + key.len() + value.len(),
+        end,
+        rows: rows[0] - own.rows as u64 + 1,
+    };
     change.make(rows, table, work, |_, to| {
         put(to, &[&word(key.len()), key, &word(value.len()), value]);
     })
-}
-
-/// The rows whose keys begin with some bytes. Where there is none, the place is that behind the smaller keys.
-#[derive(Default)]
-struct Line {
-    place: Range<usize>,
-    rows: usize,
-    /// The length of the longest key, or 0.
-    longest: usize,
-}
-
-impl Line {
-    fn see(&mut self, prefix: &[u8], key: &[u8], place: &Range<usize>) {
-        match key[..key.len().min(prefix.len())].cmp(prefix) {
-            Less => self.place = place.end..place.end,
-            Equal => {
-                self.place.end = place.end;
-                self.rows += 1;
-                self.longest = self.longest.max(key.len());
-            }
-            Greater => (),
-        }
-    }
 }
 
 #[inline(never)]
@@ -157,8 +173,8 @@ fn try_clone(
 ) -> Result<(), u64> {
     let [mut source, mut target] = [Line::default(), Line::default()];
     let end = each_row(rows, table, |key, place| {
-        source.see(from, key, &place);
-        target.see(to, key, &place);
+        source.see_under(from, key, &place);
+        target.see_under(to, key, &place);
     })?;
     require(work.len() == table.len(), 2)?;
     require(from.len() <= FIRST as usize, 3)?;
@@ -186,15 +202,11 @@ pub fn lookup(rows: &[u64], table: &[u8], key: &[u8], answer: &mut [u64]) -> u64
 }
 
 fn try_lookup(rows: &[u64], table: &[u8], key: &[u8], answer: &mut [u64]) -> Result<(), u64> {
-    let mut found = None;
-    each_row(rows, table, |other, place| {
-        if other == key {
-            found = Some(place);
-        }
-    })?;
-    let Range { start, end } = found.ok_or(8_u64)?;
-    let place = start + 8 + key.len();
-    *answer.first_chunk_mut().ok_or(9_u64)? = [place, end - place].map(|n| n as u64);
+    let mut own = Line::default();
+    each_row(rows, table, |other, place| own.see_one(key, other, &place))?;
+    require(own.rows == 1, 8)?;
+    let place = own.place.start + 8 + key.len();
+    *answer.first_chunk_mut().ok_or(9_u64)? = [place, own.place.end - place].map(|n| n as u64);
     Ok(())
 }
 
