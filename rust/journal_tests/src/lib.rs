@@ -1,5 +1,5 @@
-//! What tests and measures the archive through the crate `nungakes`: models of it, a plain Rust
-//! implementation to be measured against, and memory that notices what it should not.
+//! What tests and measures the archives through the crates `nungakes` and `nungakes_replica`: models of them, a plain
+//! Rust implementation to be measured against, and memory that notices what it should not.
 pub mod call;
 pub mod faults;
 pub mod guarded;
