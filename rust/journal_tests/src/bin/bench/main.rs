@@ -113,6 +113,20 @@ fn measured(case: &mut Case, rounds: usize) -> Vec<[f64; 2]> {
     seconds.iter().map(|s| [s[0], s[rounds / 2]]).collect()
 }
 
+/// A line for each way.
+fn say(case: &Case, times: &[[f64; 2]]) {
+    for (way, [best, middle]) in case.ways.iter().zip(times) {
+        let a_call = best * 1e9 / case.calls as f64;
+        let a_byte = best * 1e9 / case.bytes as f64;
+        let speed = case.bytes as f64 / best / 1e6;
+        let [than_best, than_middle] = [times[0][0] / best, times[0][1] / middle];
+        println!(
+            "{:25} {:11} {a_call:9.1} {a_byte:8.4} {speed:7.0} {than_best:8.3} {than_middle:7.3}",
+            case.name, way.name
+        );
+    }
+}
+
 fn main() {
     let words: Vec<String> = std::env::args().skip(1).collect();
     let rounds = words.first().map_or(21, |word| word.parse().expect("ROUNDS is a number"));
@@ -141,15 +155,6 @@ fn main() {
     println!("case                      way         ns/call  ns/byte    MB/s     best  middle");
     for mut case in cases.into_iter().filter(|case| format!("{} ", case.name).starts_with(&only)) {
         let times = measured(&mut case, rounds);
-        for (way, [best, middle]) in case.ways.iter().zip(&times) {
-            let a_call = best * 1e9 / case.calls as f64;
-            let a_byte = best * 1e9 / case.bytes as f64;
-            let speed = case.bytes as f64 / best / 1e6;
-            let [than_best, than_middle] = [times[0][0] / best, times[0][1] / middle];
-            println!(
-                "{:25} {:11} {a_call:9.1} {a_byte:8.4} {speed:7.0} {than_best:8.3} {than_middle:7.3}",
-                case.name, way.name
-            );
-        }
+        say(&case, &times);
     }
 }

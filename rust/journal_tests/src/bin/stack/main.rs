@@ -23,6 +23,32 @@ fn declared() -> BTreeSet<&'static str> {
     prototypes.filter_map(name).collect()
 }
 
+/// Measures a row's calls: whether they are within the limit, and use the same, where there is a limit.
+fn measured(Row { name, function, calls }: Row, limit: Option<usize>) -> bool {
+    let mut within = true;
+    let mut figures = BTreeSet::new();
+    for Call { what, record, others } in calls {
+        let mut words = record;
+        let (bytes, answer) = depth::used(function, || {
+            words = record;
+            let lent = words.iter_mut().flat_map(|words| calls::filled(words));
+            lent.chain(others.iter().copied()).collect()
+        });
+        assert!(answer == 0 || name == "journal_crc32c", "{name} of {what} gives {answer}");
+        println!("stack: {bytes:5} bytes, {name} of {what}");
+        if limit.is_some_and(|limit| bytes > limit) {
+            println!("stack: more than {LIMIT}");
+            within = false;
+        }
+        figures.insert(bytes);
+    }
+    if limit.is_some() && figures.len() > 1 {
+        println!("stack: {name} differs with the size");
+        within = false;
+    }
+    within
+}
+
 fn main() -> ExitCode {
     let words: Vec<String> = std::env::args().skip(1).collect();
     let limit = match words.iter().map(String::as_str).collect::<Vec<_>>()[..] {
@@ -34,28 +60,9 @@ fn main() -> ExitCode {
     let mut unmeasured = declared();
     assert!(!unmeasured.is_empty(), "the headers declare nothing");
     let mut within = true;
-    let mut measure = |Row { name, function, calls }: Row| {
-        unmeasured.remove(name);
-        let mut figures = BTreeSet::new();
-        for Call { what, record, others } in calls {
-            let mut words = record;
-            let (bytes, answer) = depth::used(function, || {
-                words = record;
-                let lent = words.iter_mut().flat_map(|words| calls::filled(words));
-                lent.chain(others.iter().copied()).collect()
-            });
-            assert!(answer == 0 || name == "journal_crc32c", "{name} of {what} gives {answer}");
-            println!("stack: {bytes:5} bytes, {name} of {what}");
-            if limit.is_some_and(|limit| bytes > limit) {
-                println!("stack: more than {LIMIT}");
-                within = false;
-            }
-            figures.insert(bytes);
-        }
-        if limit.is_some() && figures.len() > 1 {
-            println!("stack: {name} differs with the size");
-            within = false;
-        }
+    let mut measure = |row: Row| {
+        unmeasured.remove(row.name);
+        within &= measured(row, limit);
     };
     calls::each(&mut measure);
     replica::each(&mut measure);
