@@ -1,3 +1,5 @@
 pub mod Keys
+pub mod Digits
+pub mod Agreeing
 pub mod Compared
 pub mod Maps

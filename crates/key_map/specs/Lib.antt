@@ -1,2 +1,3 @@
 pub mod Keys
+pub mod Digits
 pub mod Map

@@ -17,6 +17,7 @@ pub struct Replayed {
 }
 
 // Steps the entry on top and moves the replay past it: both or neither.
+#[inline(always)]
 pub fn replay_next(
     j: Journalist,
     replay: &[u8],

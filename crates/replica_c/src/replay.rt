@@ -10,6 +10,7 @@ use journalist::Journalist;
 use refusals::Refusal;
 
 // The entry on top stepped into the rows that the word counts, and popped. (Without that word: pop's numbers, then 2.)
+#[inline(always)]
 fn replay_rows(
     j: Journalist,
     replay: &[u8],

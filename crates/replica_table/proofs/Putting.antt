@@ -1,14 +1,18 @@
 -- Runs of bytes put behind each other, and the second buffer brought back. Assumes nothing.
-use mathlib.Core.Path.{◌≡◌, sym, ap, ap₂, ◌∙◌}
-use mathlib.Core.List.{List, [], ◌++◌, append_assoc, append-nil}
-use Prim.Native.Nat.{ℕ, ◌+◌, ◌-◌, ◌≤◌}
+use mathlib.Core.Path.{◌≡◌, refl, sym, ap, ap₂, ◌∙◌}
+use mathlib.Core.Bool.{Bool, true, false}
+use mathlib.Core.List.{List, ◌++◌, append_assoc}
+use Prim.Native.Nat.{ℕ, ◌+◌, ◌-◌, ◌≤◌, ◌<◌}
 use native.Mathlib.Omega.{arith}
-use lib.ListN.{length, take, drop, replicate, length-append, length-take, length-drop, drop_of_length-le}
-use lib.Seq.{length-take-le, take_at}
+use borrow.Author.Tests.{ltb-true, ltb-false}
+use lib.Dec.{ltb}
+use Rattle.std.proofs.lemmas.List.{drop-replicate, replicate-append-replicate, drop-drop}
+use lib.ListN.{length, take, drop, replicate, length-append, length-take, length-replicate}
+use lib.Seq.{length-take-le}
 use Rattle.words.specs.Words.{word}
 use Rattle.words.specs.Lists.{splice}
 use Rattle.words.proofs.Words.{length_word}
-use Rattle.words.proofs.Splice.{splice_zero, splice_splice, take_splice}
+use Rattle.words.proofs.Splice.{splice_nil, splice_zero, splice_splice, take_splice}
 use Rattle.table_rows.specs.Table.{padded}
 use Rattle.journal_entry.specs.Entry.{journal_insert, wire}
 use Rattle.journal_entry.specs.Places.{part}
@@ -38,23 +42,47 @@ put_form d at key value d₁ d₂ p ep h e₁ e₂ =
     ∙ ap (λ (n : ℕ). splice d at (word n ++ (key ++ (word (length value) ++ value)))) zero_more
 
 -- the first bytes of the second buffer brought to the table, and zeros behind them
-pub settled : (table work t z : List ℕ) (used : ℕ) → length work ≡ length table → used ≤ length work
-    → t ≡ splice table 0 (take (used - 0) work)
-    → z ≡ replicate (length (take (length t - used) (drop used t))) 0
-    → take used t ++ (z ++ drop (length t - used) (drop used t)) ≡ take used work ++ replicate (length table - used) 0
-settled table work t z used long fits t_is z_is =
-    let x : List ℕ = take used work in
-    let nothing_off : used - 0 ≡ used = omega arith in
-    let lx : length x ≡ used = length-take-le used work fits in
-    let is : t ≡ x ++ drop (length x) table =
-    t_is ∙ ap (λ (n : ℕ). splice table 0 (take n work)) nothing_off ∙ splice_zero table x in
-    let lt : length t ≡ length table = ap length is ∙ rw (length-append, length-drop) (omega arith) in
-    let front : take used t ≡ x = ap (take used) is ∙ take_at x (drop (length x) table) used lx in
-    let rest : length (take (length t - used) (drop used t)) ≡ length table - used =
-    simp (length-take, length-drop) (omega arith) in
-    let nothing : drop (length t - used) (drop used t) ≡ [] =
-    drop_of_length-le (drop used t) {i = length t - used} (rw length-drop (omega arith)) in
-    rw (nothing, z_is, rest, append-nil, front)
+pub settled : (table work t z : List ℕ) (n used : ℕ) → length work ≡ length table → n ≤ length work
+    → used ≤ length table
+    → drop used table ≡ replicate (length table - used) 0
+    → t ≡ splice table 0 (take (n - 0) work) → z ≡ splice t n (replicate (used - n) 0)
+    → z ≡ take n work ++ replicate (length table - n) 0
+settled table work t z n used long fits in_table zeros t_is z_is = go (ltb n used) refl
+  where
+    x : List ℕ
+    x = take n work
+
+    long_x : length x ≡ n
+    long_x = length-take-le n work fits
+
+    t_made : t ≡ splice table 0 x
+    t_made = let nothing_off : n - 0 ≡ n = omega arith in rw nothing_off at t_is
+
+    o : List ℕ
+    o = replicate (used - n) 0
+
+    go : (b : Bool) → ltb n used ≡ b → z ≡ x ++ replicate (length table - n) 0
+    go true f =
+        let less : n < used = ltb-true n used f in
+        let lo : length o ≡ used - n = length-replicate (used - n) 0 in
+        let lxo : length (x ++ o) ≡ used = omega (arith, length-append x o, long_x) in
+        let sum : used - n + (length table - used) ≡ length table - n = omega arith in
+        put_two table 0 x o t z n (omega (arith, long_x)) (omega (arith, long_x)) t_made z_is
+        ∙ splice_zero table (x ++ o)
+        ∙ ap (λ (k : ℕ). (x ++ o) ++ drop k table) lxo
+        ∙ ap (λ (l : List ℕ). (x ++ o) ++ l) zeros
+        ∙ append_assoc x o (replicate (length table - used) 0)
+        ∙ ap (λ (l : List ℕ). x ++ l) (replicate-append-replicate (used - n) (length table - used) 0
+        ∙ ap (λ (k : ℕ). replicate k 0) sum)
+    go false f =
+        let more : used ≤ n = ltb-false n used f in
+        let none : used - n ≡ 0 = omega arith in
+        let behind : used + (n - used) ≡ n = omega arith in
+        let left : length table - used - (n - used) ≡ length table - n = omega arith in
+        z_is ∙ ap (λ (k : ℕ). splice t n (replicate k 0)) none ∙ splice_nil t n ∙ t_made
+        ∙ splice_zero table x ∙ ap (λ (k : ℕ). x ++ drop k table) (long_x ∙ sym behind)
+        ∙ ap (λ (l : List ℕ). x ++ l) (sym (drop-drop (n - used) used table) ∙ ap (drop (n - used)) zeros
+        ∙ drop-replicate (n - used) (length table - used) 0 ∙ ap (λ (k : ℕ). replicate k 0) left)
 
 -- the bytes put behind the first `at`, with these, and zeros behind them
 pub brought_back : (t w p : List ℕ) (at : ℕ) (w₁ : List ℕ) (n : ℕ) → n ≡ at + length p → at + length p ≤ length w

@@ -236,3 +236,14 @@ pub found_spanned : (count : ℕ) (t : List ℕ) (reach : Reach) (key : List ℕ
     → Spanned count t reach key (rows_in count t) found.used found.span
 found_spanned count t reach key found f =
     spanned count t (rows_in count t) found.used (known count t reach key found f) reach key found.span f.span_is
+
+-- behind a table's rows are zeros
+pub found_zeros : (count : ℕ) (t : List ℕ) (reach : Reach) (key : List ℕ) (found : Found)
+    → FoundIn count t reach key found → drop found.used t ≡ replicate (length t - found.used) 0
+unfolding table_of
+found_zeros count t reach key found f =
+    let rows : List Row = rows_in count t in
+    let pad : List ℕ = replicate (length t - weight rows) 0 in
+    ap₂ drop f.used_is ((table_told count t rows f.is).bytes_are f.bytes)
+    ∙ drop_at (forms rows) pad (weight rows) (length_forms rows)
+    ∙ ap (λ (n : ℕ). replicate (length t - n) 0) (sym f.used_is)

@@ -1,5 +1,5 @@
 // Rows written into the second buffer, one run behind the other, and brought back to the table.
-ghost use Rattle.std.specs.Prelude.{◌≡◌, ◌++◌, ◌+◌, ◌-◌, ◌≤◌, length, take, replicate};
+ghost use Rattle.std.specs.Prelude.{◌≡◌, ◌++◌, ◌+◌, ◌-◌, ◌≤◌, length, take, drop, replicate};
 ghost use Rattle.words.specs.Words.{word};
 ghost use Rattle.words.specs.Lists.{splice};
 ghost use Rattle.journal_entry.specs.Entry.{journal_insert, wire};
@@ -41,16 +41,27 @@ pub(crate) fn put_row(dst: &mut [u8], at: usize, key: &[u8], value: &[u8]) -> us
     put_sized(dst, value_at, value.len(), value)
 }
 
+// Zeros from a place to another, if any lie between.
+fn put_zeros(dst: &mut [u8], from: usize, to: usize)
+    requires { (from ≤ length dst.old) × (to ≤ length dst.old) }
+    ensures { dst.new ≡ splice dst.old from (replicate (to - from) 0) }
+{
+    if from < to {
+        words::zero_fill(&mut dst[from..to]);
+    }
+}
+
 // Puts the rows of the table from `end` to `used` behind the first `at` bytes of the second buffer. These become the
-// table, zeros behind them, and the second buffer is cleared.
+// table, zeros behind them (as they were behind `used`), and the second buffer is cleared.
 pub(crate) fn settle(table: &mut [u8], work: &mut [u8], end: usize, used: usize, at: usize)
     requires { (length work.old ≡ length table.old) × (end ≤ used) × (used ≤ length table.old)
-        × (at + (used - end) ≤ length work.old) }
+        × (at + (used - end) ≤ length work.old)
+        × (drop used table.old ≡ replicate (length table.old - used) 0) }
     ensures table_new { table.new ≡ padded (length table.old) (take at work.old ++ part table.old end used) }
     ensures work_new { work.new ≡ replicate (length work.old) 0 }
 {
     let total = put_bytes(work, at, &table[end..used]);
     put_bytes(table, 0, &work[0..total]);
-    words::zero_fill(&mut table[total..]);
+    put_zeros(table, total, used);
     words::zero_fill(work);
 }

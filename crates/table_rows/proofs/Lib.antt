@@ -10,3 +10,4 @@ pub mod Spans
 pub mod Skipping
 pub mod Rests
 pub mod Finding
+pub mod RowRead

@@ -170,8 +170,3 @@ row_here {C} t at r rest h w e k = go (row_at t at) refl
     go : (o : Option EntryPlace) → row_at t at ≡ o → C
     go (Some p) f = k p (here p f)
     go None f = absurd (no_row t at r.key r.value rest h f parsed)
-
--- what is nothing is none
-pub unread : {A : Type 0} (o : Option A) → ((p : A) → o ≡ Some p → ⊥) → o ≡ None
-unread None n = refl
-unread (Some p) n = absurd (n p refl)

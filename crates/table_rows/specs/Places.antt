@@ -1,7 +1,7 @@
 -- Rows by their places in a table, as the code goes. `RowPlaces` and `Spans` in proofs/ have that these are the rows
 -- of the table. Assumes nothing.
 use Rattle.std.specs.Prelude.{Bool, cond, Option, None, Some, List, [], ◌≡◌, ℕ, zero, suc, ◌+◌, ◌-◌, length, take, drop}
-use Rattle.std.specs.Prelude.{◌<◌, get_or}
+use Rattle.words.specs.Lists.{Bytes}
 use Rattle.journal_entry.specs.declared.Kind.{Kind}
 use Rattle.journal_entry.specs.declared.Kind.TheVariants.{Insert, Clone}
 use Rattle.journal_entry.specs.declared.EntryPlace.{EntryPlace}
@@ -102,7 +102,7 @@ found_at reach key t count = found_of (used_of 0 (table_rows count t)) (span_at 
 
 -- what was found: a slice of bytes that is a table, and where the rows lie
 pub record FoundIn (count : ℕ) (t : List ℕ) (reach : Reach) (key : List ℕ) (found : Found) : Type 0 where
-  pub bytes : (k : ℕ) → get_or t k 0 < 256
+  pub bytes : Bytes t
   pub is : table_rows count t ≡ Some (rows_in count t)
   pub used_is : found.used ≡ weight (rows_in count t)
   pub span_is : found.span ≡ span_at reach key t count

@@ -4,6 +4,7 @@
 mod rest;
 
 ghost use Rattle.std.specs.Prelude.{◌≡◌, ◌+◌, ◌≤◌, length};
+ghost use Rattle.journal_entry.specs.Places.{word_at};
 ghost use Rattle.table_rows.specs.Rows.{meets};
 ghost use Rattle.table_rows.specs.Places.{row_at, key_in, found_at, between, skip_where, passing, span_at};
 
@@ -48,6 +49,7 @@ enum Pass {
 
 impl Reach {
     // Whether a step at a key or prefix is about this key.
+    #[inline(always)]
     fn meets(self, at: &[u8], key: &[u8]) -> bool
         ensures { result ≡ meets self at.now key.now }
     {
@@ -60,6 +62,7 @@ impl Reach {
 
 impl Pass {
     // Whether a row of this key is passed.
+    #[inline(always)]
     fn takes(self, at: &[u8], key: &[u8]) -> bool
         ensures { result ≡ passing self at.now key.now }
     {
@@ -84,19 +87,46 @@ impl Span {
     }
 }
 
-// The row at `at`: an insert that ends in the table.
-#[tactic(auto, unfolding(crate::specs::Places::row_at))]
+// The word at i of a slice that holds it whole. (On bytes that lie side by side this is compiled to one load.)
+#[inline(always)]
+fn word_in(s: &[u8], i: usize) -> u32
+    requires { i + 4 ≤ length s.now }
+    ensures { result ≡ word_at s.now i }
+{
+    words::word_of(s[i], s[i + 1], s[i + 2], s[i + 3])
+}
+
+// The row at `at`: an insert that ends in the table. (What `journal_entry::entry_at` reads where it is an insert: a
+// clone's first length word is over the limit, so that one test is for both.)
+#[inline(always)]
 pub fn row_at(table: &[u8], at: usize) -> Option<EntryPlace>
     ensures { result ≡ row_at table.now at }
 {
-    let entry = journal_entry::entry_at(&table, at, table.len())?;
-    match entry.kind {
-        Kind::Insert => Some(entry),
-        Kind::Clone => None,
+    let room = table.len().checked_sub(8)?.checked_sub(at)?;
+    let first_len = word_in(table, at) as usize;
+    if journal_entry::FIRST_LIMIT < first_len {
+        return None;
     }
+    let rest = room.checked_sub(first_len)?;
+    let second_len = word_in(table, at + 4 + first_len) as usize;
+    if journal_entry::VALUE_LIMIT < second_len {
+        return None;
+    }
+    if rest < second_len {
+        return None;
+    }
+    Some(EntryPlace {
+        kind: Kind::Insert,
+        first_at: at + 4,
+        first_len,
+        second_at: at + 8 + first_len,
+        second_len,
+        next: at + 8 + first_len + second_len,
+    })
 }
 
 // A row's key.
+#[inline(always)]
 fn key_of<'a>(table: &'a [u8], row: EntryPlace) -> &'a [u8]
     requires { row.first_at + row.first_len ≤ length table.now }
     ensures { result.now ≡ key_in table.now row }
@@ -106,6 +136,7 @@ fn key_of<'a>(table: &'a [u8], row: EntryPlace) -> &'a [u8]
 }
 
 // What is left behind the first rows that are passed.
+#[inline(always)]
 fn skip_rows(table: &[u8], rows: RowsFrom, pass: Pass, key: &[u8]) -> RowsFrom
     ensures { result ≡ skip_where (passing pass key.now) table.now rows.at rows.left }
 {

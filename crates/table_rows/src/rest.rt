@@ -15,6 +15,7 @@ pub(crate) struct Rest {
 
 impl Rest {
     // The row in front, if there is one whose key stands behind the key before it.
+    #[inline(always)]
     fn row(self, table: &[u8]) -> Option<EntryPlace>
         requires { Lies table.now self }
         ensures { result ≡ next_row table.now self }
@@ -29,6 +30,7 @@ impl Rest {
     }
 
     // What is left behind that row.
+    #[inline(always)]
     fn behind(self, row: EntryPlace) -> Rest
         requires { 0 < self.rows.left }
         ensures { result ≡ rest_behind self row }
@@ -43,6 +45,7 @@ impl Rest {
     }
 
     // What is left behind the first rows that are passed; none, where one of them is no row of a table.
+    #[inline(always)]
     pub(crate) fn behind_passed(self, table: &[u8], pass: Pass, key: &[u8]) -> Option<Rest>
         requires { Lies table.now self }
         ensures { MatchOption result
@@ -61,6 +64,7 @@ impl Rest {
     }
 
     // The bytes that all rows of the table take, where what is left is a table's rest.
+    #[inline(always)]
     pub(crate) fn used(self, table: &[u8]) -> Option<usize>
         requires { Lies table.now self }
         ensures { result ≡ taken table.now self }

@@ -1,4 +1,5 @@
 -- Lists of bytes, and what a part of a slice holds. Assumes nothing.
+pub use Rattle.words.specs.Lists.{Bytes}
 use mathlib.Core.Path.{◌≡◌, refl, sym, ap, ◌∙◌, subst}
 use mathlib.Core.List.{List, [], ◌∷◌}
 use Prim.Native.Nat.{ℕ, zero, suc, ◌+◌, ◌-◌, ◌≤◌, ◌<◌}
@@ -6,10 +7,6 @@ use native.Mathlib.Nat.{le_of_eq}
 use native.Mathlib.Omega.{arith}
 use lib.ListN.{length, take, drop, get_or, length-drop}
 use lib.Seq.{drop-cons, take_all, take-nil, get_or-drop}
-
--- every element is below 256
-abbrev pub Bytes : List ℕ → Type 0
-Bytes s = (k : ℕ) → get_or s k 0 < 256
 
 pub bytes_drop : (i : ℕ) (s : List ℕ) → Bytes s → Bytes (drop i s)
 bytes_drop i s bytes k = subst (λ (x : ℕ). x < 256) (sym (get_or-drop i s k 0)) (bytes (i + k))

@@ -1,18 +1,26 @@
--- The test for zeros is std's test of each element; what passes it is zeros, and zeros pass it. Assumes nothing.
-use mathlib.Core.Path.{◌≡◌, refl, ap, ap₂}
+-- The test for zeros, by the list shifted: each element is as the one before it; what passes it is zeros, and zeros
+-- pass it. Assumes nothing.
+use mathlib.Core.Path.{◌≡◌, refl, sym, ap₂, ◌∙◌}
 use mathlib.Core.Bool.{Bool, true, false, ◌&&◌}
 use mathlib.Core.List.{List, [], ◌∷◌}
 use Prim.Native.Nat.{ℕ, zero, suc}
-use borrow.Author.Tests.{eqb-true}
+use borrow.Author.Tests.{eqb-true, eqb-false, eq-eqb, ne_eqb}
 use lib.Dec.{eqb}
-use lib.ListN.{length, replicate}
-use Rattle.std.specs.List.{list_all}
+use lib.ListN.{length, take, replicate}
+use Rattle.std.specs.Cmp.Lexicographic.{pointwise}
 use Rattle.words.specs.Lists.{all_zero}
 
-pub list_all_zero : (s : List ℕ) → list_all (λ x. eqb x 0) s ≡ all_zero s
+-- where an element is 0, those behind it are exactly where each is as the one before it
+pub shifted : (x : ℕ) (s : List ℕ) → x ≡ 0 → pointwise eqb s (take (length s) (x ∷ s)) ≡ all_zero s
 unfolding all_zero
-list_all_zero [] = refl
-list_all_zero (x ∷ s) = ap (λ b. eqb x 0 && b) (list_all_zero s)
+shifted x [] e = refl
+shifted x (y ∷ s) e = go (eqb y 0) refl (shifted y s)
+  where
+    go : (b : Bool) → eqb y 0 ≡ b → (y ≡ 0 → pointwise eqb s (take (length s) (y ∷ s)) ≡ all_zero s)
+        → (eqb y x && pointwise eqb s (take (length s) (y ∷ s))) ≡ (b && all_zero s)
+    go true f further = let z : y ≡ 0 = eqb-true y 0 f in rw (eq-eqb y x (z ∙ sym e), further z)
+    go false f further =
+        let n : y ≡ x → ⊥ = λ same. eqb-false y 0 f (same ∙ e) in rw (ne_eqb y x n)
 
 pub zeros_told : (s : List ℕ) → all_zero s ≡ true → s ≡ replicate (length s) 0
 unfolding all_zero

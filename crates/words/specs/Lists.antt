@@ -1,5 +1,6 @@
 -- Byte lists put together and taken apart. Assumes nothing.
-use Rattle.std.specs.Prelude.{Bool, true, ◌&&◌, List, [], ◌∷◌, ◌++◌, ℕ, zero, suc, ◌+◌, eqb, length, take, drop}
+use Rattle.std.specs.Prelude.{Bool, true, ◌&&◌, List, [], ◌∷◌, ◌++◌, ℕ, zero, suc, ◌+◌, eqb, ◌<◌, length, get_or, take}
+use Rattle.std.specs.Prelude.{drop}
 
 -- the source's `splice`: x in the place of as many bytes of d, from `at` on
 unfoldable pub splice : (d : List ℕ) (at : ℕ) (x : List ℕ) → List ℕ
@@ -19,3 +20,7 @@ chunks size (suc n) s = take size s ∷ chunks size n (drop size s)
 unfoldable pub all_zero : List ℕ → Bool
 all_zero [] = true
 all_zero (x ∷ xs) = eqb x 0 && all_zero xs
+
+-- what a slice of bytes holds: every element is below 256
+abbrev pub Bytes : List ℕ → Type 0
+Bytes s = (k : ℕ) → get_or s k 0 < 256

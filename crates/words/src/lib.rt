@@ -27,9 +27,12 @@ pub fn zero_fill(dst: &mut [u8])
     dst.fill(0);
 }
 
-// Whether every byte is 0.
+// Whether every byte is 0: the first is, and each other is as the one before it. (So std compares many at a time.)
 pub fn all_zero(s: &[u8]) -> bool
     ensures { result ≡ all_zero s.now }
 {
-    s.iter().all(|b| *b == 0)
+    let Some((first, rest)) = s.split_first() else {
+        return true;
+    };
+    *first == 0 && rest == &s[..rest.len()]
 }

@@ -8,7 +8,7 @@ use Rattle.table_rows.specs.Places.{rows_in}
 use Rattle.table_rows.specs.declared.Reach.TheVariants.{Under}
 use Rattle.replica_table.specs.Moves.{moved_forms}
 use Rattle.replica_table.proofs.Putting.{put_new}
-use Rattle.replica_table.proofs.Stepping.{known}
+use Rattle.replica_table.proofs.Stepping.{known, found_zeros}
 use Rattle.replica_table.proofs.Cloning.{CloneFacts, clone_facts, clone_keys, clone_full, room_told}
 use Rattle.replica_table.proofs.Cloning.{clone_done, count_fits}
 use Rattle.replica_table.proofs.clone_within.Goals as goal
@@ -111,6 +111,7 @@ settle-requires c =
         c.put-behind.ensures.value,
         r.long,
       ),
+      found_zeros c.args.count c.args.table.now Under c.args.to.now c.args.found c.requires.found,
     )
 
 pub overflow_sub-result : goal.overflow_sub-result

@@ -9,7 +9,7 @@ use Rattle.journal_entry.proofs.Reading.{length_wire}
 use Rattle.replica_table.proofs.Putting.{put_new}
 use Rattle.table_rows.specs.Places.{rows_in}
 use Rattle.table_rows.specs.declared.Reach.TheVariants.{Only}
-use Rattle.replica_table.proofs.Stepping.{Spanned, known, found_spanned}
+use Rattle.replica_table.proofs.Stepping.{Spanned, known, found_spanned, found_zeros}
 use Rattle.replica_table.proofs.Inserting.{insert_full, insert_done}
 use Rattle.replica_table.proofs.insert_within.Goals as goal
 use Rattle.replica_table.proofs.insert_within.Goals.{Start}
@@ -60,6 +60,7 @@ settle-requires c =
       omega (arith, h),
       omega (arith, h),
       omega (arith, h, long, c.put_bytes-row_at.ensures.value, c.requires.long),
+      found_zeros c.args.count c.args.table.now Only c.args.key.now c.args.found c.requires.found,
     )
 
 pub overflow_sub-result : goal.overflow_sub-result

@@ -2,7 +2,7 @@
 use mathlib.Core.Path.{sym, ap, ◌∙◌}
 use native.Mathlib.Omega.{arith}
 use Rattle.table_rows.specs.Places.{passing}
-use Rattle.table_rows.proofs.RowPlaces.{key_inside, unread}
+use Rattle.table_rows.proofs.RowPlaces.{key_inside}
 use Rattle.table_rows.proofs.Skipping.{skip_ends, skip_unread, skip_stops, skip_more}
 use Rattle.table_rows.proofs.skip_rows.Goals as goal
 
@@ -10,7 +10,7 @@ pub returns-in_default : goal.returns-in_default
 returns-in_default c =
     let l = c.loop-rest in
     skip_unread (passing c.args.pass c.args.key.now) c.args.table.now l.rest c.loop-rest-test.true
-    (sym (unread c.row_at.result c.in_default.not-Some) ∙ c.row_at.ensures)
+    (sym c.in_default.is ∙ c.row_at.ensures)
     ∙ l.invariant
 
 pub key_of-requires : goal.key_of-requires

@@ -8,7 +8,8 @@ use Rattle.replica_table.proofs.put.settle.Goals as goal
 pub returns-clause-table_new : goal.returns-clause-table_new
 returns-clause-table_new c =
     let x = c.args in
-    settled x.table.now c.put_bytes-total.new.dst c.put_bytes.new.dst c.zero_fill.new.dst c.put_bytes-total.result
-    (omega arith) (omega arith) c.put_bytes.ensures.dst_new c.zero_fill.ensures
+    settled x.table.now c.put_bytes-total.new.dst c.put_bytes.new.dst c.put_zeros.new.dst c.put_bytes-total.result
+    x.used
+    (omega arith) (omega arith) (omega arith) c.requires.4 c.put_bytes.ensures.dst_new c.put_zeros.ensures
     ∙ brought_back x.table.now x.work.now (part x.table.now x.end x.used) x.at c.put_bytes-total.new.dst
     c.put_bytes-total.result c.put_bytes-total.ensures.value (omega arith) c.put_bytes-total.ensures.dst_new

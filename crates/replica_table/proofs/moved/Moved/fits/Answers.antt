@@ -2,14 +2,13 @@
 use mathlib.Core.Path.{◌≡◌}
 use Prim.Native.Nat.{◌-◌, ◌+◌}
 use native.Mathlib.Omega.{arith}
-use Rattle.table_rows.proofs.RowPlaces.{unread}
 use Rattle.replica_table.proofs.Looking.{fit_unread, fit_short, fit_long, fit_more, fit_ends}
 use Rattle.replica_table.proofs.moved.Moved.fits.Goals as goal
 
 pub returns-in_default : goal.returns-in_default
 returns-in_default c =
     fit_unread _ _ _ _ _ _ _ c.loop.invariant (omega arith) _ c.row_at.ensures
-    (unread c.row_at.result c.in_default.not-Some)
+    c.in_default.is
 
 pub returns-then-n-self : goal.returns-then-n-self
 returns-then-n-self c =

@@ -2,19 +2,18 @@
 use mathlib.Core.Path.{◌≡◌}
 use Prim.Native.Nat.{◌-◌, ◌+◌}
 use native.Mathlib.Omega.{arith}
-use Rattle.table_rows.proofs.RowPlaces.{unread}
 use Rattle.replica_table.proofs.Moving.{moving_none, moving_row, moving_more, moving_ends}
 use Rattle.replica_table.proofs.moved.Moved.put.Goals as goal
 
 pub returns-in_default-clause-value : goal.returns-in_default-clause-value
 returns-in_default-clause-value c =
     absurd (moving_none _ _ _ _ _ _ _ _ _ _ _ c.loop.invariant (omega arith) _ c.row_at.ensures
-    (unread c.row_at.result c.in_default.not-Some))
+    c.in_default.is)
 
 pub returns-in_default-clause-work_new : goal.returns-in_default-clause-work_new
 returns-in_default-clause-work_new c =
     absurd (moving_none _ _ _ _ _ _ _ _ _ _ _ c.loop.invariant (omega arith) _ c.row_at.ensures
-    (unread c.row_at.result c.in_default.not-Some))
+    c.in_default.is)
 
 pub overflow_add-rest_at : goal.overflow_add-rest_at
 overflow_add-rest_at c =
