@@ -22,9 +22,6 @@ split : (s : List ℕ) (i : ℕ) → take 8 (drop i s) ++ drop (i + 8) s ≡ dro
 split s i = ap (λ (l : List ℕ). take 8 (drop i s) ++ l) (sym (drop-drop 8 i s)) ∙ take-append-drop 8 (drop i s)
 
 module _ (a b : List ℕ) where
-  pub agree_starts : Agree a b 0
-  agree_starts = record { in_a = omega arith; in_b = omega arith; first = refl }
-
   pub agree_less : (i k : ℕ) → k ≤ i → Agree a b i → Agree a b k
   agree_less i k h w =
       record {

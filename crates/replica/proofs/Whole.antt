@@ -57,10 +57,6 @@ module _ (size : ℕ) (rows : List Row) (e : JournalEntry) (es : List JournalEnt
   abbrev folded : (fit room : Bool) → Outcome (List Row)
   folded fit room = require fit else 20 then require room else 21 then steps_rows size (stepped rows e) es
 
-  pub steps_cons : steps_rows size rows (e ∷ es) ≡ folded (keys_fit (made rows e)) (leb (weight (stepped rows e)) size)
-  unfolding steps_rows
-  steps_cons = refl
-
 -- THE WHOLE REPLAY, of a centre whose journal hands out entries, with a table and a second buffer as long
 pub replay_exactly : (es : List JournalEntry) (a : Centre) (s : List ℕ) (rows : List Row)
     → RecordHandsOut a.journal s es → AllWithin es → table_rows a.count a.table ≡ Some rows

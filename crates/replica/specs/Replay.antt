@@ -20,7 +20,7 @@ after (gives a) rest = rest a
 after (refuses number) rest = refuses number
 after (refuses_block number block) rest = refuses_block number block
 
--- The entry on top, and the record behind it: pop's 2, 8 and 14. (Where pop gives, so does top: law `pop-top`.)
+-- The entry on top, and the record behind it: pop's 2, 8 and 14. (Where pop gives, so does top: law `pop_top`.)
 unfoldable pub next_entry : Journalist → (replay : List ℕ) → Outcome (Journalist × JournalEntry)
 next_entry j replay =
     after (replay_journal_pop_call j replay) λ next.

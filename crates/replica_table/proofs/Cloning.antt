@@ -2,15 +2,12 @@
 use mathlib.Core.Path.{◌≡◌, sym, ap, ap₂, ◌∙◌}
 use mathlib.Core.Bool.{Bool, true, false}
 use mathlib.Core.List.{List, [], ◌∷◌, ◌++◌}
-use mathlib.Core.Logic.{◌↔◌}
-use Prim.Native.Nat.{ℕ, suc, ◌+◌, ◌-◌, ◌*◌, ◌/◌, ◌≤◌, ◌<◌}
-use native.Mathlib.Nat.{le-div_iff_mul-le}
+use Prim.Native.Nat.{ℕ, suc, ◌+◌, ◌-◌, ◌*◌, ◌≤◌, ◌<◌}
 use native.Mathlib.Omega.{arith}
-use borrow.Author.Tests.{leb-true, leb-false, le-leb, lt-leb}
+use borrow.Author.Tests.{leb-true, leb-false}
 use lib.Dec.{leb}
 use lib.ListN.{length, take, drop, replicate, length-append}
 use Rattle.refusals.specs.Outcome.{gives, refuses}
-use Rattle.refusals.proofs.Tests.{leb_same}
 use Rattle.journal_entry.specs.Entry.{journal_clone, first_limit, to_limit}
 use Rattle.journal_entry.specs.Places.{part}
 use Rattle.table_rows.specs.declared.Reach.TheVariants.{Under}
@@ -27,24 +24,6 @@ use Rattle.table_rows.proofs.Spans.{drop_met, later_within}
 use Rattle.replica_table.proofs.Moving.{moved_are, fits_are, weight_moved, length_moved_all}
 use Rattle.replica_table.proofs.Stepping.{Step, refused, answered, refuse_keys, refuse_room, accept}
 use Rattle.replica_table.proofs.Stepping.{weight_stepped, length_stepped, Known, Spanned, spanned, new_table}
-
--- 21's test without the product
-pub room_none : (stay rows len room : ℕ) → room < stay → false ≡ leb (stay + rows * len) room
-room_none stay rows len room h = sym (lt-leb (stay + rows * len) room (omega arith))
-
-pub room_same : (stay rows len room : ℕ) → stay ≤ room → len ≡ 0 → true ≡ leb (stay + rows * len) room
-room_same stay rows len room h e =
-    let z : rows * len ≡ 0 = ap (λ (n : ℕ). rows * n) e ∙ omega arith in
-    sym (le-leb (stay + rows * len) room (omega arith))
-
-pub room_div : (stay rows len room : ℕ) → stay ≤ room → (len ≡ 0 → ⊥)
-    → leb rows ((room - stay) / len) ≡ leb (stay + rows * len) room
-room_div stay rows len room h n =
-    let pos : 0 < len = omega arith in
-    let iff : (rows ≤ (room - stay) / len) ↔ (rows * len ≤ room - stay) = le-div_iff_mul-le pos in
-    leb_same rows ((room - stay) / len) (stay + rows * len) room
-    (λ i. let j : rows * len ≤ room - stay = iff.0 i in omega arith)
-    (λ i. iff.1 (omega arith))
 
 -- every row under `from` has at least its bytes
 prefix_weighs : (from : List ℕ) (xs : List Row) → AllKeys (λ k. begins from k ≡ true) xs

@@ -1,4 +1,4 @@
--- The step of an insert: each return of `insert_in`. Assumes nothing.
+-- The step of an insert: each return of `insert_within`. Assumes nothing.
 use mathlib.Core.Path.{◌≡◌, sym}
 use mathlib.Core.Bool.{true}
 use mathlib.Core.List.{List, [], ◌∷◌, ◌++◌, append-nil}

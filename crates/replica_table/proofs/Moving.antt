@@ -1,4 +1,4 @@
--- Rows moved one by one, as the loop of `put_moved_rows` goes; and what is moved are the wire forms of the rows
+-- Rows moved one by one, as the loop of `Moved::put` goes; and what is moved are the wire forms of the rows
 -- that a clone makes. Assumes nothing.
 use mathlib.Core.Path.{◌≡◌, refl, sym, ap, ap₂, ◌∙◌}
 use mathlib.Core.Bool.{true, false, ◌&&◌}
@@ -72,10 +72,6 @@ length_moved t p f to =
     omega arith
 
 module _ (t : List ℕ) (from rows f : ℕ) (to w₀ : List ℕ) (at : ℕ) where
-  pub moving_starts : moves_fit t from rows f (first_limit - length to) ≡ true
-      → at + length (moved_forms t from rows f to) ≤ length w₀ → Moving t from rows f to w₀ at w₀ from rows at
-  moving_starts h k = record { fits = h; long = refl; room = k; whole = refl; ends = refl }
-
   module _ (w : List ℕ) (here left place : ℕ) (v : Moving t from rows f to w₀ at w here left place) where
     module _ (some_left : 0 < left) (o : Option EntryPlace) (is : o ≡ row_at t here) where
       pub moving_none : o ≡ None → ⊥

@@ -28,7 +28,7 @@ step_tests t w e rows =
     ∷ []
 
 module _ (count : ℕ) (t w : List ℕ) (e : JournalEntry) where
-  -- of a table: `refuse-table` (Stepping) is the rest of 2
+  -- of a table: `refuse_table` (Stepping) is the rest of 2
   pub step_exactly : (rows : List Row) → table_rows count t ≡ Some rows
       → Exactly (step_tests t w e rows) (stepped rows e) (step_rows count t w e)
   unfolding step_rows

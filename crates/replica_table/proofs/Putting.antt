@@ -79,10 +79,16 @@ settled table work t z n used long fits in_table zeros t_is z_is = go (ltb n use
         let none : used - n ≡ 0 = omega arith in
         let behind : used + (n - used) ≡ n = omega arith in
         let left : length table - used - (n - used) ≡ length table - n = omega arith in
-        z_is ∙ ap (λ (k : ℕ). splice t n (replicate k 0)) none ∙ splice_nil t n ∙ t_made
-        ∙ splice_zero table x ∙ ap (λ (k : ℕ). x ++ drop k table) (long_x ∙ sym behind)
-        ∙ ap (λ (l : List ℕ). x ++ l) (sym (drop-drop (n - used) used table) ∙ ap (drop (n - used)) zeros
-        ∙ drop-replicate (n - used) (length table - used) 0 ∙ ap (λ (k : ℕ). replicate k 0) left)
+        let put : z ≡ splice table 0 x =
+        z_is ∙ ap (λ (k : ℕ). splice t n (replicate k 0)) none ∙ splice_nil t n ∙ t_made in
+        let whole : z ≡ x ++ drop n table =
+        put ∙ splice_zero table x ∙ ap (λ (k : ℕ). x ++ drop k table) long_x in
+        let there : drop n table ≡ drop (n - used) (drop used table) =
+        ap (λ (k : ℕ). drop k table) (sym behind) ∙ sym (drop-drop (n - used) used table) in
+        let rest : drop n table ≡ replicate (length table - n) 0 =
+        there ∙ ap (drop (n - used)) zeros ∙ drop-replicate (n - used) (length table - used) 0
+        ∙ ap (λ (k : ℕ). replicate k 0) left in
+        whole ∙ ap (λ (l : List ℕ). x ++ l) rest
 
 -- the bytes put behind the first `at`, with these, and zeros behind them
 pub brought_back : (t w p : List ℕ) (at : ℕ) (w₁ : List ℕ) (n : ℕ) → n ≡ at + length p → at + length p ≤ length w

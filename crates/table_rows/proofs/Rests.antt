@@ -102,9 +102,6 @@ module _ (t : List ℕ) where
   abbrev pub all_rows : (count : ℕ) → Rest
   all_rows count = record { rows = rows_from 0 count; prior = None }
 
-  pub all_lie : (count : ℕ) → Lies t (all_rows count)
-  all_lie count = record { inside = omega arith; prior_inside = tt }
-
   pub all_tell : (count : ℕ) → taken t (all_rows count) ≡ used_of 0 (table_rows count t)
   unfolding taken rest_rows table_rows
   all_tell count = refl

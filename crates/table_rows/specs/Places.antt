@@ -5,7 +5,6 @@ use Rattle.words.specs.Lists.{Bytes}
 use Rattle.journal_entry.specs.declared.Kind.{Kind}
 use Rattle.journal_entry.specs.declared.Kind.TheVariants.{Insert, Clone}
 use Rattle.journal_entry.specs.declared.EntryPlace.{EntryPlace}
-use Rattle.journal_entry.specs.Entry.{JournalEntry}
 use Rattle.journal_entry.specs.Places.{entry_at}
 use Rattle.key_map.specs.Keys.{before}
 use Rattle.table_rows.specs.declared.Reach.{Reach}
@@ -14,7 +13,7 @@ use Rattle.table_rows.specs.declared.Span.{Span}
 use Rattle.table_rows.specs.declared.Found.{Found}
 use Rattle.table_rows.specs.declared.Pass.{Pass}
 use Rattle.table_rows.specs.declared.Pass.TheVariants.{Before, About}
-use Rattle.table_rows.specs.Rows.{Row, weight, reach_of, target, meets, ahead, met}
+use Rattle.table_rows.specs.Rows.{Row, weight, meets, ahead, met}
 use Rattle.table_rows.specs.Table.{table_rows}
 
 -- an insert is a row, a clone is none
@@ -82,10 +81,6 @@ span_of reach key rows =
       end = weight (ahead key rows) + weight (met reach key rows);
       rows = length (met reach key rows);
     }
-
--- where the rows lie that an entry's step is about
-abbrev pub span_about : JournalEntry → (t : List ℕ) (count : ℕ) → Span
-span_about e t count = span_at (reach_of e) (target e) t count
 
 -- the place behind rows from `at` on
 abbrev pub used_of : (at : ℕ) → Option (List Row) → Option ℕ

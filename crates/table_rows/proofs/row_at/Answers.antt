@@ -1,10 +1,10 @@
 -- `row_at` meets its contract: each refusal contradicts a fact of `Reads`, and past all of them each holds. Assumes
 -- nothing.
-use mathlib.Core.Path.{◌≡◌, sym, ap, ◌∙◌}
+use mathlib.Core.Path.{◌≡◌, ap, ◌∙◌}
 use Prim.Native.Nat.{ℕ, ◌+◌}
 use native.Mathlib.Omega.{arith}
 use Rattle.journal_entry.specs.Places.{word_at}
-use Rattle.table_rows.proofs.RowRead.{Reads, not_read, read}
+use Rattle.table_rows.proofs.RowRead.{not_read, read}
 use Rattle.table_rows.proofs.row_at.Goals as goal
 use Rattle.table_rows.proofs.row_at.Goals.{After-word_in-second_len}
 
