@@ -1,14 +1,11 @@
 -- Runs of bytes put behind each other, and the second buffer brought back. Assumes nothing.
 use mathlib.Core.Path.{◌≡◌, refl, sym, ap, ap₂, ◌∙◌}
-use mathlib.Core.Bool.{Bool, true, false}
 use mathlib.Core.List.{List, ◌++◌, append_assoc}
-use Prim.Native.Nat.{ℕ, ◌+◌, ◌-◌, ◌≤◌, ◌<◌}
+use Prim.Native.Nat.{ℕ, ◌+◌, ◌-◌, ◌≤◌}
 use native.Mathlib.Omega.{arith}
-use borrow.Author.Tests.{ltb-true, ltb-false}
-use lib.Dec.{ltb}
 use Rattle.std.proofs.lemmas.List.{drop-replicate, replicate-append-replicate, drop-drop}
 use lib.ListN.{length, take, drop, replicate, length-append, length-take, length-replicate}
-use lib.Seq.{length-take-le}
+use Rattle.journal_entry.proofs.Options.{by_order}
 use Rattle.words.specs.Words.{word}
 use Rattle.words.specs.Lists.{splice}
 use Rattle.words.proofs.Words.{length_word}
@@ -41,54 +38,45 @@ put_form d at key value d₁ d₂ p ep h e₁ e₂ =
     ∙ ap (splice d at) (append_assoc (word (length key)) key (word (length value) ++ value))
     ∙ ap (λ (n : ℕ). splice d at (word n ++ (key ++ (word (length value) ++ value)))) zero_more
 
--- the first bytes of the second buffer brought to the table, and zeros behind them
-pub settled : (table work t z : List ℕ) (n used : ℕ) → length work ≡ length table → n ≤ length work
-    → used ≤ length table
-    → drop used table ≡ replicate (length table - used) 0
-    → t ≡ splice table 0 (take (n - 0) work) → z ≡ splice t n (replicate (used - n) 0)
-    → z ≡ take n work ++ replicate (length table - n) 0
-settled table work t z n used long fits in_table zeros t_is z_is = go (ltb n used) refl
-  where
-    x : List ℕ
-    x = take n work
+-- behind zeros are zeros
+zeros_from : (t : List ℕ) (k used : ℕ) → drop used t ≡ replicate (length t - used) 0
+    → drop (used + k) t ≡ replicate (length t - used - k) 0
+zeros_from t k used zeros =
+    sym (drop-drop k used t) ∙ ap (drop k) zeros ∙ drop-replicate k (length t - used) 0
 
-    long_x : length x ≡ n
-    long_x = length-take-le n work fits
+zeros_behind : (t : List ℕ) (n used : ℕ) → used ≤ n → drop used t ≡ replicate (length t - used) 0
+    → drop n t ≡ replicate (length t - n) 0
+zeros_behind t n used h zeros =
+    let behind : used + (n - used) ≡ n = omega arith in
+    let left : length t - used - (n - used) ≡ length t - n = omega arith in
+    rw (behind, left) at (zeros_from t (n - used) used zeros)
 
-    t_made : t ≡ splice table 0 x
-    t_made = let nothing_off : n - 0 ≡ n = omega arith in rw nothing_off at t_is
+-- bytes brought to the table's front, and zeros behind them up to where its rows ended
+module _ (t x : List ℕ) (n used : ℕ) (long : length x ≡ n) (fits : n ≤ length t) (inside : used ≤ length t)
+    (zeros : drop used t ≡ replicate (length t - used) 0) where
+  more : used ≤ n → splice (splice t 0 x) n (replicate (used - n) 0) ≡ x ++ replicate (length t - n) 0
+  more h =
+      let none : used - n ≡ 0 = omega arith in
+      rw none (splice_nil (splice t 0 x) n) ∙ splice_zero t x
+      ∙ ap (λ (l : List ℕ). x ++ l) (rw long (zeros_behind t n used h zeros))
 
-    o : List ℕ
-    o = replicate (used - n) 0
+  less : n ≤ used → splice (splice t 0 x) n (replicate (used - n) 0) ≡ x ++ replicate (length t - n) 0
+  less h =
+      let whole : length (x ++ replicate (used - n) 0) ≡ used =
+      omega (arith, long, length-append x (replicate (used - n) 0), length-replicate {A = ℕ} (used - n) 0) in
+      let sum : used - n + (length t - used) ≡ length t - n = omega arith in
+      put_two t 0 x (replicate (used - n) 0) (splice t 0 x) (splice (splice t 0 x) n (replicate (used - n) 0)) n
+      (omega (arith, long)) (omega (arith, long, length-replicate {A = ℕ} (used - n) 0)) refl refl
+      ∙ splice_zero t (x ++ replicate (used - n) 0)
+      ∙ ap (λ (l : List ℕ). (x ++ replicate (used - n) 0) ++ l) (rw whole zeros)
+      ∙ append_assoc x (replicate (used - n) 0) (replicate (length t - used) 0)
+      ∙ ap (λ (l : List ℕ). x ++ l)
+      (rw sum at (replicate-append-replicate {A = ℕ} (used - n) (length t - used) 0))
 
-    go : (b : Bool) → ltb n used ≡ b → z ≡ x ++ replicate (length table - n) 0
-    go true f =
-        let less : n < used = ltb-true n used f in
-        let lo : length o ≡ used - n = length-replicate (used - n) 0 in
-        let lxo : length (x ++ o) ≡ used = omega (arith, length-append x o, long_x) in
-        let sum : used - n + (length table - used) ≡ length table - n = omega arith in
-        put_two table 0 x o t z n (omega (arith, long_x)) (omega (arith, long_x)) t_made z_is
-        ∙ splice_zero table (x ++ o)
-        ∙ ap (λ (k : ℕ). (x ++ o) ++ drop k table) lxo
-        ∙ ap (λ (l : List ℕ). (x ++ o) ++ l) zeros
-        ∙ append_assoc x o (replicate (length table - used) 0)
-        ∙ ap (λ (l : List ℕ). x ++ l) (replicate-append-replicate (used - n) (length table - used) 0
-        ∙ ap (λ (k : ℕ). replicate k 0) sum)
-    go false f =
-        let more : used ≤ n = ltb-false n used f in
-        let none : used - n ≡ 0 = omega arith in
-        let behind : used + (n - used) ≡ n = omega arith in
-        let left : length table - used - (n - used) ≡ length table - n = omega arith in
-        let put : z ≡ splice table 0 x =
-        z_is ∙ ap (λ (k : ℕ). splice t n (replicate k 0)) none ∙ splice_nil t n ∙ t_made in
-        let whole : z ≡ x ++ drop n table =
-        put ∙ splice_zero table x ∙ ap (λ (k : ℕ). x ++ drop k table) long_x in
-        let there : drop n table ≡ drop (n - used) (drop used table) =
-        ap (λ (k : ℕ). drop k table) (sym behind) ∙ sym (drop-drop (n - used) used table) in
-        let rest : drop n table ≡ replicate (length table - n) 0 =
-        there ∙ ap (drop (n - used)) zeros ∙ drop-replicate (n - used) (length table - used) 0
-        ∙ ap (λ (k : ℕ). replicate k 0) left in
-        whole ∙ ap (λ (l : List ℕ). x ++ l) rest
+  pub settled : (t₁ t₂ : List ℕ) → t₁ ≡ splice t 0 x → t₂ ≡ splice t₁ n (replicate (used - n) 0)
+      → t₂ ≡ x ++ replicate (length t - n) 0
+  settled t₁ t₂ e₁ e₂ =
+      e₂ ∙ ap (λ (l : List ℕ). splice l n (replicate (used - n) 0)) e₁ ∙ by_order used n more λ h. less (omega arith)
 
 -- the bytes put behind the first `at`, with these, and zeros behind them
 pub brought_back : (t w p : List ℕ) (at : ℕ) (w₁ : List ℕ) (n : ℕ) → n ≡ at + length p → at + length p ≤ length w
