@@ -36,8 +36,9 @@ uint64_t replica_clone(uint64_t *rows, size_t rows_len, uint8_t *table, size_t t
 uint64_t replica_lookup(const uint64_t *rows, size_t rows_len, const uint8_t *table, size_t table_len,
     const uint8_t *key, size_t key_len, uint64_t *answer, size_t answer_len);
 
-/* Make the step of the replay's next entry, and go past it: 2, 8, 14 as journal_pop, then those of the step. Words and
- * replay are as journal_load left them. Where the step is refused, the entry is still the next. */
+/* Make the step of the replay's next entry, and go past it: 2, 8, 14 as journal_pop, then the step's 2, 20, 21 (an
+ * entry that reads is within its limits). The replay is as journal_load left it, the words as the last call on the
+ * record did. Where the step is refused, the entry is still the next. */
 uint64_t replica_replay(uint64_t *words, size_t words_len, const uint8_t *replay, size_t replay_len,
     uint64_t *rows, size_t rows_len, uint8_t *table, size_t table_len, uint8_t *work, size_t work_len);
 

@@ -1,14 +1,14 @@
--- A WHOLE REPLAY leaves the rows that its entries make one by one, or 20 or 21 of the first that has no room; so the
+-- A WHOLE REPLAY leaves the rows that its entries make one by one, or 20 or 21 of the first that is refused; so the
 -- table has the map of the list, and two ranges one after the other leave what their joined range does. Assumes
 -- nothing.
-use mathlib.Core.Path.{◌≡◌, refl, sym, ap, ap₂, ◌∙◌}
+use mathlib.Core.Path.{◌≡◌, refl, sym, ap, ap₂, ◌∙◌, subst}
 use mathlib.Core.Bool.{Bool, true, false}
 use mathlib.Core.List.{List, [], ◌∷◌, ◌++◌}
 use Rattle.std.specs.Prelude.{Some}
 use Prim.Native.Nat.{ℕ}
 use lib.Dec.{leb}
 use lib.ListN.{length, length-replicate}
-use Rattle.refusals.specs.Outcome.{Outcome, gives, refuses, require◌else◌then◌, into}
+use Rattle.refusals.specs.Outcome.{Outcome, gives, refuses, refuses_block, require◌else◌then◌, into}
 use Rattle.refusals.proofs.Tests.{impossible}
 use Rattle.refusals.proofs.Outcomes.{gives_same, into_told}
 use Rattle.journal_entry.specs.Entry.{JournalEntry, AllWithin, value_limit}
@@ -21,7 +21,7 @@ use Rattle.key_map.specs.Map.{Map, replay_map}
 use Rattle.table_rows.specs.Rows.{Row, weight, lookup, made, stepped, replayed, keys_fit}
 use Rattle.table_rows.specs.Table.{table_rows}
 use Rattle.table_rows.proofs.Replayed.{replay_maps}
-use Rattle.replica_table.specs.Calls.{step_rows, step_table, step_work}
+use Rattle.replica_table.specs.Calls.{step_rows, step_call, step_table, step_work}
 use Rattle.replica_table.proofs.Stepping.{tested}
 use Rattle.replica_table.proofs.Accepted.{step_follows}
 use Rattle.replica.specs.Replay.{after, next_entry, step_then, replay_next_call, bytes_then, replay_next_table}
@@ -155,6 +155,28 @@ module _ (es : List JournalEntry) (a b : Centre) (s : List ℕ) (rows : List Row
         sym (ap (λ (l : Left). l.rows) left) ∙ ap Some (steps_replayed (length a.table) es rows new f),
         λ key. ap (λ (m : Map). m key) (replay_maps es rows),
       )
+
+after_told : {A B C : Type 0} (o : Outcome A) (f : A → Outcome B) (b : B) → after o f ≡ gives b
+    → ((a : A) → o ≡ gives a → f a ≡ gives b → C) → C
+after_told (gives a) f b e k = k a refl e
+after_told (refuses number) f b e k = impossible cc
+after_told (refuses_block number block) f b e k = impossible cc
+
+-- behind the last entry nothing is left: 8, whatever the table
+pub replay_ends : (es : List JournalEntry) (a b : Centre) (s : List ℕ) → RecordHandsOut a.journal s es
+    → replay_all (length es) a s ≡ gives b
+    → (count : ℕ) (t w : List ℕ) → replay_next_call b.journal s count t w ≡ refuses 8
+unfolding replay_all replay_next_call next_entry
+replay_ends [] a b s out done count t w =
+    let same : a ≡ b = gives_same done in
+    rw (← same, out.1)
+replay_ends (e ∷ es) a b s out done count t w =
+    after_told (replay_next_call a.journal s a.count a.table a.work) _ b done λ x f g.
+    into_told (stepped_to (behind_it a.journal s e es out)) (step_call a.count a.table a.work e) x
+    (sym (call_handed a.journal s e es out a.count a.table a.work) ∙ f) λ n h is.
+    replay_ends es (centre_after a s x) b s
+    (subst (λ (r : Replayed). RecordHandsOut r.journalist s es) is out.3) g count
+    t w
 
 -- THE CENTRE'S SENTENCE, of the fold: two ranges one after the other are their joined range, refusals too
 pub steps_joined : (size : ℕ) (xs ys : List JournalEntry) (rows : List Row)

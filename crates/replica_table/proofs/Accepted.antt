@@ -96,7 +96,7 @@ within_stepped rows e w v t =
     (within_where (λ k. before (target e) k && not (meets (reach_of e) (target e) k)) rows w)))
 
 -- THE TABLE AFTER AN ACCEPTED STEP is as long as before, is of the form, and has what the map's step gives to every
--- key. Its rows' room is their weight: a deleted row's is free.
+-- key. (Its rows take their weight and no more: `table_told`.)
 pub record Follows (count : ℕ) (table work : List ℕ) (e : JournalEntry) (rows new : List Row) : Type 0 where
   pub was : table_rows count table ≡ Some rows
   pub reads : table_rows (length new) (step_table count table work e) ≡ Some new

@@ -66,6 +66,10 @@ module _ (count : ℕ) (t key : List ℕ) (rows : List Row) (bytes : Bytes t) (i
       placed v = record { at = weight (ahead key rows) + 8 + length key; len = length v }
 
   -- and 8 is for a key that is absent, and only for one
+  pub absent_refused : lookup rows key ≡ None → lookup_call count t key ≡ refuses 8
+  unfolding lookup_call
+  absent_refused e = rw (is, e)
+
   module _ (place : List ℕ → ValuePlace) where
     refused_none : (o : Option (List ℕ)) → (given o else 8 then λ (v : List ℕ). gives (place v)) ≡ refuses 8 → o ≡ None
     refused_none None f = refl

@@ -28,7 +28,7 @@ pub struct ValuePlace {
     pub len: usize,
 }
 
-// The first row of each call: where the rows lie that a key or prefix is about, of a slice that is a table.
+// The first test of each call, 2: of a slice that is a table, where the rows lie that a key or prefix is about.
 fn find_rows(table: &[u8], count: usize, reach: Reach, key: &[u8]) -> Result<Found, Refusal>
     ensures { MatchResult result
         (FoundIn count table.now reach key.now)
@@ -134,7 +134,7 @@ fn clone_within(
     Ok(count - span.rows + source.rows)
 }
 
-// The same of an entry's rows.
+// `find_rows` for an entry: an insert's key, or the keys under a clone's `to`.
 fn find_about(
     table: &[u8],
     count: usize,

@@ -1,5 +1,5 @@
--- A table and its rows: what reads is the one table of its rows, what is written reads, and a table after an
--- accepted step is of the form again. Assumes nothing.
+-- A table and its rows: what reads is the one table of its rows, what is written reads, and tables of one length and
+-- one content are the same. Assumes nothing.
 use mathlib.Core.Path.{◌≡◌, refl, sym, ap, ap₂, ◌∙◌, subst}
 use mathlib.Core.Bool.{true, ◌&&◌}
 use mathlib.Core.List.{List, [], ◌∷◌, ◌++◌}

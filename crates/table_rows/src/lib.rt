@@ -19,8 +19,8 @@ pub enum Reach {
 }
 
 // So many rows are left from a place on.
-#[derive(Clone, Copy, Debug, PartialEq, Eq)]
-pub struct RowsFrom {
+#[derive(Clone, Copy)]
+pub(crate) struct RowsFrom {
     pub at: usize,
     pub left: usize,
 }

@@ -44,7 +44,8 @@ impl Rest {
         }
     }
 
-    // What is left behind the first rows that are passed; none, where one of them is no row of a table.
+    // What is left behind the first rows that are passed; none, where one of them, or the row in front then, is no row
+    // of a table.
     #[inline(always)]
     pub(crate) fn behind_passed(self, table: &[u8], pass: Pass, key: &[u8]) -> Option<Rest>
         requires { Lies table.now self }

@@ -86,8 +86,8 @@ pub fn lookup<'a>(rows: u64, table: &'a [u8], key: &[u8]) -> Result<&'a [u8], Re
     Ok(&table[place..place + len])
 }
 
-/// Makes the step of the replay's next entry, and goes past it: 2, 8, 14 as [`Journal::pop`], then those of the step.
-/// Where the step is refused, the entry is still the next.
+/// Makes the step of the replay's next entry, and goes past it: 2, 8, 14 as [`Journal::pop`], then the step's 2,
+/// 20, 21. Where the step is refused, the entry is still the next.
 pub fn replay(
     journal: &mut Journal,
     replay: &[u8],

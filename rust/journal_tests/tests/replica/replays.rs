@@ -1,6 +1,6 @@
 //! Histories: entries that stations journalled and packaged, loaded and replayed into one table, call by call.
 use crate::{clone, insert, map, Call::*, Replica, Tally};
-use journal_tests::model::replica::{stepped, Map};
+use journal_tests::model::replica::{stepped, table, Map};
 use journal_tests::model::writing::{self, Entry};
 use journal_tests::random::{times, Random};
 use journal_tests::replica::Lent;
@@ -75,6 +75,9 @@ impl Tally {
         let mut popped = journal.clone();
         if let Ok(map) = stepped {
             popped.pop(replay).unwrap();
+            let len = replica.table.len();
+            assert!(after.table == table(&map, len) && after.work == vec![0; len]);
+            assert_eq!(after.rows[0], map.len() as u64);
             *replica = Replica { map, rows: after.rows[0], table: after.table };
         }
         // a refusal leaves the record

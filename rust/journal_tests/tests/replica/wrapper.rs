@@ -1,4 +1,4 @@
-//! The safe functions say what the calls on words say.
+//! The safe functions: what they give, change and refuse.
 use journal_tests::model::replica::table;
 use journal_tests::model::writing::{self, Entry};
 use nungakes::{Journal, Refusal, BLOCK, PAYLOAD};

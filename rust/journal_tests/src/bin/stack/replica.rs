@@ -36,7 +36,7 @@ fn tables() -> [Table; 3] {
     // half of them under "a", which a clone copies, and half under "b"
     let key = |k: usize| format!("{}{k}", ["a", "b"][k % 2]).into_bytes();
     let many = (0..300_000).map(|k| (key(k), vec![7]));
-    let largest = (0..100).map(|k| (vec![k; 511], vec![k; 16_384]));
+    let largest = (0..100).map(|k| (vec![k; 512], vec![k; 16_384]));
     [
         Table::new("four rows", few.into()),
         Table::new("300000 rows", many.collect()),
