@@ -9,6 +9,7 @@ use lib.ListN.{length}
 use lib.Seq.{take_at}
 use Rattle.refusals.specs.Outcome.{gives}
 use Rattle.words.specs.Lists.{concat_seq}
+use Rattle.words.proofs.All.{all_split}
 use Rattle.journal_entry.specs.Entry.{JournalEntry}
 use Rattle.journal_range.specs.Payload.{parse_payload}
 use Rattle.journal_range.proofs.Payload.{parse_payload_nil, joining_payload}
@@ -21,7 +22,7 @@ use Rattle.journalist.specs.Calls.{open_call}
 use Rattle.history.specs.Calls.{Call}
 use Rattle.history.specs.History.{Image, opened, run, Whole, AllWhole, payloads}
 use Rattle.history.proofs.History.{history}
-use Rattle.history.proofs.Images.{payloads_blocks, whole_back}
+use Rattle.history.proofs.Images.{payloads_blocks}
 use Rattle.history.proofs.Crash.{entries_read, crash}
 use Rattle.card.specs.Calls.{image_blocks}
 use Rattle.card.specs.Cut.{Strips, AllStrip}
@@ -78,7 +79,7 @@ module _ (n r : ℕ) (j : Journalist) (ring : List ℕ) (cs : List Call) (o : op
   alone before i later is next =
       let all : AllWhole (before ++ (i ∷ later)) =
       rw is at (history n r j ring cs o long).afterwards.images_whole in
-      let whole = (whole_back before (i ∷ later) all).0 in
+      let whole = (all_split Whole before (i ∷ later) all).1.0 in
       let c = crash n r j ring cs o long before (i ∷ []) later is in
       let reads = (entries_read n r j ring o long cs before (i ∷ []) c.entries c.entries_of_lem).1 in
       next c.entries

@@ -9,12 +9,13 @@ use native.Mathlib.Omega.{arith}
 use lib.Dec.{leb}
 use lib.ListN.{length, take}
 use Rattle.words.specs.Lists.{concat_seq}
+use Rattle.words.proofs.All.{all_split}
 use Rattle.journal_entry.specs.Entry.{JournalEntry}
 use Rattle.journal_range.specs.Payload.{parse_payload}
 use Rattle.journal_range.proofs.Payload.{joining_payload}
-use Rattle.history.specs.History.{Image, AllWhole, payloads}
+use Rattle.history.specs.History.{Image, Whole, AllWhole, payloads}
 use Rattle.history.proofs.History.{history}
-use Rattle.history.proofs.Images.{payloads_append, payloads_blocks, whole_front, whole_back}
+use Rattle.history.proofs.Images.{payloads_append, payloads_blocks}
 use Rattle.history.proofs.Crash.{replays, entries_read, crash}
 use Rattle.card.specs.Calls.{formatted, found_output, image_blocks}
 use Rattle.card.specs.Cut.{Finds, Strips, all_blocks, stored_all}
@@ -58,8 +59,7 @@ unfolding card_at
 on_card n r j ring cs o long m card range sized earlier last later is room calls =
     let all : AllWhole (earlier ++ (last ∷ later)) =
     rw is at (history n r j ring cs o long).afterwards.images_whole in
-    let first-whole = whole_front earlier (last ∷ later) all in
-    let last-whole = (whole_back earlier (last ∷ later) all).0 in
+    let (first-whole, (last-whole, later-whole)) = all_split Whole earlier (last ∷ later) all in
     let k : image_blocks last.bytes ≡ last.added = blocks_added last last-whole in
     let count = counted earlier first-whole in
     let x = each n r j ring cs o long [] earlier (last ∷ later) is in

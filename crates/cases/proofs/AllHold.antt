@@ -96,6 +96,10 @@ all_hold =
     also rw fresh_hangs refl
     also refl
     also refl
+    also read _ refl (omega arith) _ refl (omega arith) 4063 refl
+    also rw fresh_hangs refl
+    also rw fresh_hangs refl
+    also rw fresh_hangs refl
     also refl
     also refl
     also refl

@@ -8,8 +8,8 @@ use native.Mathlib.Omega.{arith}
 use lib.ListN.{length, take, length-append}
 use lib.Seq.{take_at}
 use Rattle.refusals.specs.Outcome.{gives}
-use Rattle.journal_entry.specs.Entry.{JournalEntry, value_limit, AllWithin, sum_journal_entries, wires}
-use Rattle.journal_entry.proofs.Reading.{sum_append, wires_append, within_append, within_split}
+use Rattle.journal_entry.specs.Entry.{JournalEntry, sum_journal_entries, wires}
+use Rattle.journal_entry.proofs.Reading.{sum_append, wires_append}
 use Rattle.journalist.specs.declared.Last.{Last}
 use Rattle.journalist.specs.Updates.{moved}
 use Rattle.journalist.specs.Record.{blocks_for, thawed_record}
@@ -68,9 +68,7 @@ module _ (n : ℕ) (w : World) (i : Invariant n w) where
         blocks_are = i.blocks_are;
         hangs = frozen_hangs w.journalist i.hangs;
         ring_long = i.ring_long;
-        frozen_within =
-            within_append value_limit w.lists.frozen w.lists.memory i.frozen_within i.memory_within;
-        memory_within = tt;
+        appendable_lem = i.appendable_lem;
         stays = stays_behind w.lists.memory;
         frozen_split = stays_behind_lem w.lists.memory;
         last_holds = freeze_holds w.lists.memory;
@@ -109,7 +107,6 @@ module _ (n : ℕ) (w : World) (i : Invariant n w) where
       omega (arith, sum_append moves m, sum_append i.stays moves, ap sum_journal_entries i.frozen_split) in
       let forms : wires i.stays ++ wires (moves ++ m) ≡ wires w.lists.frozen ++ wires m =
       sym (wires_append i.stays (moves ++ m)) ∙ ap wires order ∙ wires_append w.lists.frozen m in
-      let split = within_split value_limit i.stays moves (subst AllWithin i.frozen_split i.frozen_within) in
       record {
         after = record {
           images_whole = a.images_whole;
@@ -128,8 +125,7 @@ module _ (n : ℕ) (w : World) (i : Invariant n w) where
         blocks_are = i.blocks_are;
         hangs = thawed_hangs j i.hangs;
         ring_long = i.ring_long;
-        frozen_within = rw stays_left split.0;
-        memory_within = within_append value_limit moves m split.1 i.memory_within;
+        appendable_lem = i.appendable_lem;
         stays = i.stays;
         frozen_split = rw (stays_left, append-nil) refl;
         last_holds = omega arith;

@@ -8,6 +8,7 @@ use Prim.Native.Nat.{ℕ, zero, suc, ◌-◌, ◌≤◌}
 use native.Mathlib.Omega.{arith}
 use lib.Dec.{leb}
 use lib.ListN.{length}
+use Rattle.words.proofs.All.{all_map}
 use Rattle.journal_entry.specs.Entry.{JournalEntry, journal_insert, journal_clone, entry_of, clone_mark}
 use Rattle.journal_entry.specs.Entry.{within_limits_at, WithinAt, AllWithinAt, Within, HasLonger, here, behind}
 use Rattle.journal_entry.specs.Entry.{weight_journal_entry}
@@ -25,8 +26,7 @@ heaviest (journal_clone from to) w = omega (arith, w.first_fits, w.second_fits)
 
 -- a larger limit takes what a smaller one takes
 pub all_larger : (a b : ℕ) → a ≤ b → (es : List JournalEntry) → AllWithinAt a es → AllWithinAt b es
-all_larger a b h [] w = tt
-all_larger a b h (e ∷ es) w = (one e w.0, all_larger a b h es w.1)
+all_larger a b h = all_map (WithinAt a) (WithinAt b) one
   where
     one : (e : JournalEntry) → WithinAt a e → WithinAt b e
     one (journal_insert key value) w =

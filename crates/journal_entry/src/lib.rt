@@ -3,7 +3,7 @@
 
 mod sequence;
 
-ghost use Rattle.std.specs.Prelude.{◌≡◌, cond, List, ℕ, ◌+◌, ◌-◌, ◌≤◌, leb, length};
+ghost use Rattle.std.specs.Prelude.{◌≡◌, ◌||◌, cond, List, ℕ, ◌+◌, ◌-◌, ◌≤◌, leb, length};
 ghost use Rattle.journal_entry.specs.Entry.{clone_mark, second_limit};
 ghost use Rattle.journal_entry.specs.Places.{word_at, kind_of, is_clone_kind, entry_at, entries_end, entries_counted};
 
@@ -75,6 +75,13 @@ impl Kind {
             Kind::Insert => VALUE_LIMIT,
             Kind::Clone => TO_LIMIT,
         }
+    }
+
+    // Whether an entry of the kind with these first bytes has a key, or needs none.
+    pub fn has_key(self, first: &[u8]) -> bool
+        ensures { result ≡ (is_clone_kind self || leb 1 (length first.now)) }
+    {
+        self == Kind::Clone || !first.is_empty()
     }
 
     // What an entry of the kind adds to the clones.

@@ -10,10 +10,10 @@ use native.Mathlib.Omega.{arith}
 use lib.Dec.{leb, eqb}
 use lib.ListN.{length, take, drop}
 use Rattle.words.specs.Lists.{chunks, concat_seq}
-use Rattle.journal_entry.specs.Entry.{JournalEntry, value_limit, AllWithinAt, AllWithin, HasLonger}
+use Rattle.words.proofs.All.{all_append, all_split}
+use Rattle.journal_entry.specs.Entry.{JournalEntry, value_limit, WithinAt, AllWithinAt, AllWithin, HasLonger}
 use Rattle.journal_entry.specs.Parse.{parse_entries_at}
 use Rattle.journal_entry.proofs.Options.{T→true, by_order, bind_parts, provided_parts}
-use Rattle.journal_entry.proofs.Reading.{within_append, within_split}
 use Rattle.journal_entry.proofs.Limits.{all_larger, longer_out, none_longer, entries_within}
 use Rattle.journal_entry.proofs.Limits.{entries_again}
 use Rattle.journal_range.specs.Range.{JournalRange, parse_header, parse_journal_range_of_bytes_at, parse_from_at}
@@ -33,7 +33,7 @@ within_from limit zero (b ∷ bs) es e =
     bind_parts (parse_from_at limit (hdr.1 - 1) bs) _ es p₂ λ es₂ e₂ p₃.
     let ee : es₁ ++ es₂ ≡ es = cc in
     subst (AllWithinAt limit) ee
-    (within_append limit es₁ es₂ (entries_within limit hdr.0 _ es₁ e₁) (within_from limit (hdr.1 - 1) bs es₂ e₂))
+    (all_append (WithinAt limit) es₁ es₂ (entries_within limit hdr.0 _ es₁ e₁) (within_from limit (hdr.1 - 1) bs es₂ e₂))
 
 pub range_within : (limit : ℕ) (jr : JournalRange) (es : List JournalEntry) → parse_journal_range_at limit jr ≡ Some es
     → AllWithinAt limit es
@@ -61,7 +61,7 @@ again_from a b zero (x ∷ bs) es e w =
     bind_parts (parse_entries_at a hdr.0 (drop 8 (concat_seq (take hdr.1 (x ∷ bs))))) _ es p₁ λ es₁ e₁ p₂.
     bind_parts (parse_from_at a (hdr.1 - 1) bs) _ es p₂ λ es₂ e₂ p₃.
     let ee : es₁ ++ es₂ ≡ es = cc in
-    let (v, u) = within_split b es₁ es₂ (subst (AllWithinAt b) (sym ee) w) in
+    let (v, u) = all_split (WithinAt b) es₁ es₂ (subst (AllWithinAt b) (sym ee) w) in
     let ok : (leb 1 hdr.1 && leb hdr.1 (length (x ∷ bs))) ≡ true = T→true fits in
     rw (e₀, ok, entries_again a b hdr.0 _ es₁ e₁ v, again_from a b (hdr.1 - 1) bs es₂ e₂ u) p₃
 

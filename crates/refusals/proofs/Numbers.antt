@@ -9,7 +9,7 @@ use Rattle.refusals.specs.declared.Refusal.TheVariants.{SecondTooLong, RegionFul
 use Rattle.refusals.specs.declared.Refusal.TheVariants.{NothingThere, OutputTooShort, LengthTooLarge}
 use Rattle.refusals.specs.declared.Refusal.TheVariants.{ImageNotWhole, PayloadNotWhole, Unreadable}
 use Rattle.refusals.specs.declared.Refusal.TheVariants.{RingUnreadable, PlaceNotValid, NoFreeze, CardUnformed}
-use Rattle.refusals.specs.declared.Refusal.TheVariants.{CardFull, KeyTooLong, TableFull}
+use Rattle.refusals.specs.declared.Refusal.TheVariants.{CardFull, KeyTooLong, TableFull, NoKey}
 use Rattle.refusals.specs.Refusals.{number_of}
 
 -- the refusals at their numbers; places 0 and 12 are never looked at
@@ -18,7 +18,8 @@ rows =
     SizeOutOfRange ∷ SizeOutOfRange ∷ CountsDisagree ∷ FirstTooLong ∷ SecondTooLong ∷ RegionFull ∷ RingFull
     ∷ EntriesPending ∷ NothingThere
     ∷ OutputTooShort ∷ LengthTooLarge ∷ ImageNotWhole ∷ ImageNotWhole ∷ PayloadNotWhole ∷ Unreadable
-    ∷ RingUnreadable ∷ PlaceNotValid ∷ NoFreeze ∷ CardUnformed ∷ CardFull ∷ KeyTooLong ∷ TableFull ∷ []
+    ∷ RingUnreadable ∷ PlaceNotValid ∷ NoFreeze ∷ CardUnformed ∷ CardFull ∷ KeyTooLong ∷ TableFull ∷ NoKey
+    ∷ []
 
 abbrev row : ℕ → Refusal
 row n = get_or rows n SizeOutOfRange
@@ -44,6 +45,7 @@ row_of_number CardUnformed = refl
 row_of_number CardFull = refl
 row_of_number KeyTooLong = refl
 row_of_number TableFull = refl
+row_of_number NoKey = refl
 
 pub number_determines : (a b : Refusal) → number_of a ≡ number_of b → a ≡ b
 number_determines a b same = sym (row_of_number a) ∙ ap row same ∙ row_of_number b

@@ -7,7 +7,7 @@ use Rattle.refusals.specs.declared.Refusal.TheVariants.{SecondTooLong, RegionFul
 use Rattle.refusals.specs.declared.Refusal.TheVariants.{NothingThere, OutputTooShort, LengthTooLarge}
 use Rattle.refusals.specs.declared.Refusal.TheVariants.{ImageNotWhole, PayloadNotWhole, Unreadable}
 use Rattle.refusals.specs.declared.Refusal.TheVariants.{RingUnreadable, PlaceNotValid, NoFreeze, CardUnformed}
-use Rattle.refusals.specs.declared.Refusal.TheVariants.{CardFull, KeyTooLong, TableFull}
+use Rattle.refusals.specs.declared.Refusal.TheVariants.{CardFull, KeyTooLong, TableFull, NoKey}
 
 abbrev pub number_of : Refusal → ℕ
 number_of SizeOutOfRange = 1
@@ -30,3 +30,4 @@ number_of CardUnformed = 18
 number_of CardFull = 19
 number_of KeyTooLong = 20
 number_of TableFull = 21
+number_of NoKey = 22

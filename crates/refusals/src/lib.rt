@@ -48,6 +48,8 @@ pub enum Refusal {
     KeyTooLong = 20,
     // the resulting rows are longer than the table
     TableFull = 21,
+    // an insert without first bytes
+    NoKey = 22,
 }
 
 // The number in the table.

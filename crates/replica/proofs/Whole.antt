@@ -11,8 +11,8 @@ use lib.ListN.{length, length-replicate}
 use Rattle.refusals.specs.Outcome.{Outcome, gives, refuses, refuses_block, require◌else◌then◌, into}
 use Rattle.refusals.proofs.Tests.{impossible}
 use Rattle.refusals.proofs.Outcomes.{gives_same, into_told}
-use Rattle.journal_entry.specs.Entry.{JournalEntry, AllWithin, value_limit}
-use Rattle.journal_entry.proofs.Reading.{within_append}
+use Rattle.words.proofs.All.{all_append}
+use Rattle.journal_entry.specs.Entry.{JournalEntry, Within, AllWithin}
 use Rattle.replay_cursor.proofs.HandedOut.{behind_entry}
 use Rattle.journalist.specs.declared.Journalist.{Journalist}
 use Rattle.journalist.specs.Updates.{with_replay}
@@ -215,4 +215,4 @@ ranges_joined xs ys a b c u s₁ s₂ s₃ rows o₁ o₂ o₃ w₁ w₂ is long
     ∙ sym (ap (λ (o : Outcome (List Row)). into (leaves n) (after o (λ r. steps_rows n r ys))) f)
     ∙ ap (into (leaves n)) (sym (steps_joined n xs ys rows))
     ∙ sym (ap (λ (m : ℕ). into (leaves m) (steps_rows m rows (xs ++ ys))) table-u)
-    ∙ sym (replay_exactly (xs ++ ys) u s₃ rows o₃ (within_append value_limit xs ys w₁ w₂) rows-u (work-u ∙ sym table-u))
+    ∙ sym (replay_exactly (xs ++ ys) u s₃ rows o₃ (all_append Within xs ys w₁ w₂) rows-u (work-u ∙ sym table-u))

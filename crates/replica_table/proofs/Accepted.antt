@@ -11,9 +11,9 @@ use lib.ListN.{length, replicate}
 use Rattle.refusals.specs.Outcome.{Outcome, gives, given◌else◌then◌}
 use Rattle.refusals.proofs.Tests.{both, impossible}
 use Rattle.refusals.proofs.Outcomes.{gives_same, require_told}
-use Rattle.journal_entry.specs.Entry.{value_limit, JournalEntry, journal_insert, journal_clone, is_clone, first, second}
+use Rattle.words.proofs.All.{all_append}
+use Rattle.journal_entry.specs.Entry.{JournalEntry, journal_insert, journal_clone, is_clone, first, second}
 use Rattle.journal_entry.specs.Entry.{Within, AllWithin, first_limit, second_limit}
-use Rattle.journal_entry.proofs.Reading.{within_append}
 use Rattle.key_map.specs.Keys.{before, begins}
 use Rattle.key_map.specs.Map.{step_map}
 use Rattle.table_rows.specs.declared.Reach.TheVariants.{Under}
@@ -91,8 +91,8 @@ within_stepped rows e w v t =
       inserts_append (ahead (target e) rows) (made rows e ++ behind (reach_of e) (target e) rows),
       inserts_append (made rows e) (behind (reach_of e) (target e) rows),
     )
-    (within_append value_limit (inserts (ahead (target e) rows)) _ (within_where (λ k. before k (target e)) rows w)
-    (within_append value_limit (inserts (made rows e)) _ (within_made rows e w v t)
+    (all_append Within (inserts (ahead (target e) rows)) _ (within_where (λ k. before k (target e)) rows w)
+    (all_append Within (inserts (made rows e)) _ (within_made rows e w v t)
     (within_where (λ k. before (target e) k && not (meets (reach_of e) (target e) k)) rows w)))
 
 -- THE TABLE AFTER AN ACCEPTED STEP is as long as before, is of the form, and has what the map's step gives to every

@@ -7,6 +7,8 @@ use borrow.Author.Tests.{not-true}
 use lib.ListN.{length, drop}
 use Rattle.refusals.proofs.Tests.{both}
 use Rattle.journal_entry.specs.Entry.{JournalEntry, journal_insert, journal_clone}
+use Rattle.words.specs.Lists.{All}
+use Rattle.words.proofs.All.{all_map}
 use Rattle.key_map.specs.Keys.{before, begins, same}
 use Rattle.table_rows.specs.declared.Reach.{Reach}
 use Rattle.table_rows.specs.declared.Reach.TheVariants.{Under}
@@ -18,16 +20,10 @@ use Rattle.table_rows.proofs.Reaches.{met_not_before, met_behind}
 
 -- of every row's key
 abbrev pub AllKeys : (List ℕ → Type 0) → List Row → Type 0
-AllKeys P [] = Unit {0}
-AllKeys P (r ∷ rows) = P r.key × AllKeys P rows
+AllKeys P rows = All (λ r. P r.key) rows
 
 pub all_keys : {P Q : List ℕ → Type 0} (rows : List Row) → ((k : List ℕ) → P k → Q k) → AllKeys P rows → AllKeys Q rows
-all_keys [] f a = tt
-all_keys (r ∷ rows) f a = (f r.key a.0, all_keys rows f a.1)
-
-pub all_append : (P : List ℕ → Type 0) (xs ys : List Row) → AllKeys P xs → AllKeys P ys → AllKeys P (xs ++ ys)
-all_append P [] ys a b = b
-all_append P (r ∷ xs) ys a b = (a.0, all_append P xs ys a.1 b)
+all_keys rows f = all_map _ _ (λ r. f r.key) rows
 
 -- ascending, as each row's key before the key of every later row
 abbrev pub Sorted : List Row → Type 0

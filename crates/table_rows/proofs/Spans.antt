@@ -8,9 +8,9 @@ use Prim.Native.Nat.{ℕ, zero, suc, ◌+◌, ◌-◌, ◌≤◌}
 use native.Mathlib.Omega.{arith}
 use lib.ListN.{length, drop, replicate, length-append}
 use lib.Seq.{drop_at}
+use Rattle.words.proofs.All.{all_append, all_split}
 use Rattle.words.proofs.Slices.{Bytes}
-use Rattle.journal_entry.specs.Entry.{AllWithin, value_limit, wire, wires}
-use Rattle.journal_entry.proofs.Reading.{within_split}
+use Rattle.journal_entry.specs.Entry.{Within, AllWithin, wire, wires}
 use Rattle.table_rows.specs.declared.Reach.{Reach}
 use Rattle.table_rows.specs.declared.Reach.TheVariants.{Only}
 use Rattle.journal_entry.specs.declared.EntryPlace.{EntryPlace}
@@ -24,7 +24,7 @@ use Rattle.table_rows.specs.Places.{span_at, between, behind_first}
 use Rattle.key_map.proofs.Keys.{clash, same_refl, same_told, before_never, before_not_back}
 use Rattle.table_rows.proofs.Reaches.{met_not_before}
 use Rattle.table_rows.proofs.Lookups.{lookup_where}
-use Rattle.table_rows.proofs.Ascending.{AllKeys, all_keys, all_append, Sorted, sorted, where_told, where_sorted}
+use Rattle.table_rows.proofs.Ascending.{AllKeys, all_keys, Sorted, sorted, where_told, where_sorted}
 use Rattle.table_rows.proofs.Ascending.{behind_told}
 use Rattle.table_rows.proofs.Together.{together}
 use Rattle.table_rows.proofs.Tables.{inserts_append, forms_append, weight_append, length_forms, IsTable}
@@ -144,7 +144,7 @@ module _ (count : ℕ) (t : List ℕ) (reach : Reach) (key : List ℕ) (rows : L
 
   pub later_within : AllWithin (inserts later)
   later_within =
-      (within_split value_limit (inserts (ahead key rows)) (inserts later)
+      (all_split Within (inserts (ahead key rows)) (inserts later)
       (subst AllWithin (inserts_append (ahead key rows) later) split_within)).1
 
   pub skip_met : skip_where (meets reach key) t (weight (ahead key rows))

@@ -1,3 +1,4 @@
+pub mod All
 pub mod Slices
 pub mod Words
 pub mod Splice

@@ -1,4 +1,4 @@
--- Byte lists put together and taken apart. Assumes nothing.
+-- Lists put together and taken apart, and what holds of each element. Assumes nothing.
 use Rattle.std.specs.Prelude.{Bool, true, ◌&&◌, List, [], ◌∷◌, ◌++◌, ℕ, zero, suc, ◌+◌, eqb, ◌<◌, length, get_or, take}
 use Rattle.std.specs.Prelude.{drop}
 
@@ -20,6 +20,11 @@ chunks size (suc n) s = take size s ∷ chunks size n (drop size s)
 unfoldable pub all_zero : List ℕ → Bool
 all_zero [] = true
 all_zero (x ∷ xs) = eqb x 0 && all_zero xs
+
+-- each element has a property
+abbrev pub All : {A : Type 0} → (A → Type 0) → List A → Type 0
+All P [] = Unit {0}
+All P (x ∷ xs) = P x × All P xs
 
 -- what a slice of bytes holds: every element is below 256
 abbrev pub Bytes : List ℕ → Type 0

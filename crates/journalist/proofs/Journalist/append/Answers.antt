@@ -8,11 +8,11 @@ use Rattle.journal_entry.specs.Places.{is_clone_kind}
 use Rattle.journal_entry.proofs.Walks.{at_most_one}
 use Rattle.journalist.specs.Record.{hangs_together}
 use Rattle.journalist.proofs.Facts.{facts, halves_hang, base_unhung, ring_hung}
-use Rattle.journalist.proofs.Appending.{Fits, answers_4, answers_5, answers_6}
+use Rattle.journalist.proofs.Appending.{Fits, answers_4, answers_22, answers_5, answers_6}
 use Rattle.journalist.proofs.Appending.{answers_done}
 use Rattle.journalist.proofs.Journalist.append.Goals as goal
 use Rattle.journalist.proofs.Journalist.append.Goals.{Else-not-thaw_hangs, then-base_hangs, else-base_hangs}
-use Rattle.journalist.proofs.Journalist.append.Goals.{Else-second_limit-second}
+use Rattle.journalist.proofs.Journalist.append.Goals.{Else-not-has_key}
 
 -- behind the record's test, which is both halves together
 hangs : (c : Else-not-thaw_hangs) → hangs_together c.args.self ≡ true
@@ -26,14 +26,15 @@ hangs c =
     ])
     c.if-not-thaw_hangs.false
 
--- behind the limits
-fits : (c : Else-second_limit-second) → hangs_together c.args.self ≡ true
+-- behind the entry's own rows
+fits : (c : Else-not-has_key) → hangs_together c.args.self ≡ true
     → let a = c.args in Fits a.self a.ring.now a.kind a.first.now a.second.now
 fits c h =
     record {
       hangs = ring_hung _ c.args.ring.now h c.if-ring-self.false;
       first_fits = omega (arith, c.if-first-gt-FIRST_LIMIT.false);
       second_fits = omega (arith, c.second_limit.ensures, c.if-second_limit-second.false);
+      keyed = told c.has_key.ensures c.if-not-has_key.false;
     }
 
 pub returns-then-second_limit-second : goal.returns-then-second_limit-second
@@ -45,12 +46,22 @@ returns-then-second_limit-second c =
     (omega (arith, c.second_limit.ensures, c.if-second_limit-second.true)) in
     record { result_value = answer.0; ring_new = answer.1 }
 
+pub returns-then-not-has_key : goal.returns-then-not-has_key
+returns-then-not-has_key c =
+    let a = c.args in
+    let h = hangs (goal.at.returns-then-not-has_key c).Else-not-thaw_hangs in
+    let answer = answers_22 a.self a.ring.now a.kind a.first.now a.second.now
+    (ring_hung _ a.ring.now h c.if-ring-self.false) (omega (arith, c.if-first-gt-FIRST_LIMIT.false))
+    (omega (arith, c.second_limit.ensures, c.if-second_limit-second.false))
+    (told c.has_key.ensures c.if-not-has_key.true) in
+    record { result_value = answer.0; ring_new = answer.1 }
+
 pub returns-then-not-region_takes : goal.returns-then-not-region_takes
 returns-then-not-region_takes c =
     let a = c.args in
     let h = hangs (goal.at.returns-then-not-region_takes c).Else-not-thaw_hangs in
     let answer = answers_5 a.self a.ring.now a.kind a.first.now a.second.now
-    (fits (goal.at.returns-then-not-region_takes c).Else-second_limit-second h)
+    (fits (goal.at.returns-then-not-region_takes c).Else-not-has_key h)
     (told c.region_takes.ensures c.if-not-region_takes.true) in
     record { result_value = answer.0; ring_new = answer.1 }
 
@@ -85,7 +96,7 @@ returns-then-is_err c =
     let a = c.args in
     let h = hangs (goal.at.returns-then-is_err c).Else-not-thaw_hangs in
     let answer = answers_6 a.self a.ring.now a.kind a.first.now a.second.now
-    (fits (goal.at.returns-then-is_err c).Else-second_limit-second h)
+    (fits (goal.at.returns-then-is_err c).Else-not-has_key h)
     (told c.region_takes.ensures c.if-not-region_takes.false)
     c.put_entry.result c.put_entry.new.ring _ c.put_entry.ensures (omega arith)
     (sym c.is_err.ensures.value ∙ c.if-is_err.true) in
@@ -96,7 +107,7 @@ returns c =
     let a = c.args in
     let h = hangs (goal.at.returns c).Else-not-thaw_hangs in
     let answer = answers_done a.self a.ring.now a.kind a.first.now a.second.now
-    (fits (goal.at.returns c).Else-second_limit-second h)
+    (fits (goal.at.returns c).Else-not-has_key h)
     (told c.region_takes.ensures c.if-not-region_takes.false)
     c.put_entry.result c.put_entry.new.ring _ c.put_entry.ensures (omega arith)
     (sym c.is_err.ensures.value ∙ c.if-is_err.false) c.clones.result c.clones.ensures in
