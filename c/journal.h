@@ -22,7 +22,7 @@
 extern "C" {
 #endif
 
-#define JOURNAL_LIBRARY_VERSION "0.7.0"
+#define JOURNAL_LIBRARY_VERSION "0.8.0"
 
 /* A code's number; and of JOURNAL_CHECKSUM_DIFFERS the lowest block that differs. */
 #define JOURNAL_NUMBER(code) ((code) & 255)
@@ -50,6 +50,7 @@ extern "C" {
 #define JOURNAL_CARD_FULL 19          /* no room on the card for the image's blocks */
 #define JOURNAL_KEY_TOO_LONG 20       /* a clone would make a key of more than JOURNAL_FIRST_LIMIT bytes */
 #define JOURNAL_TABLE_FULL 21         /* no room in the replica's table for the resulting rows */
+#define JOURNAL_NO_KEY 22             /* an insert without a key is not appended */
 
 /* Sizes and limits. */
 #define JOURNAL_BLOCK 4096            /* bytes of a block of an image: 32 of checksum, then */
@@ -91,8 +92,9 @@ extern "C" {
 /* An empty journal of a region of n blocks and a ring of r bytes: 1; 9 where there are fewer words. */
 uint64_t journal_open(uint64_t *words, size_t words_len, uint64_t n, uint64_t r);
 
-/* Append to the in-memory list: 2, 3, 4, 5, 6. The ring is the one lent to every call of this journal, exactly r bytes;
- * only appends write it. */
+/* Append to the in-memory list: 2, 3, 4, 22, 5, 6. The ring is the one lent to every call of this journal, exactly r
+ * bytes; only appends write it. An insert has a key of one byte at least; either piece of a clone may be empty. What an
+ * older library took without a key is packaged, loaded and replayed as any other entry. */
 uint64_t journal_append_insert(uint64_t *words, size_t words_len, uint8_t *ring, size_t ring_len,
     const uint8_t *key, size_t key_len, const uint8_t *value, size_t value_len);
 uint64_t journal_append_clone(uint64_t *words, size_t words_len, uint8_t *ring, size_t ring_len,

@@ -307,9 +307,10 @@ def garbage(rng):
 
 
 def stored(rng):
-    """Images that version 0.4.0 of the library packaged, and what its lister printed of each, folded: a line that
-    starts with a blank goes on the one before. Units have such images in store, and each reads as it did then. They
-    are never made anew: those of a later version would show only that it reads what it writes."""
+    """Images that version 0.4.0 of the library packaged, and keyless.image of version 0.7.0, the last that appended
+    inserts without a key; and what each version's lister printed of them, folded: a line that starts with a blank goes
+    on the one before. Units have such images in store, and each reads as it did then. They are never made anew: those
+    of a later version would show only that it reads what it writes."""
     for name in sorted(os.listdir(STORED)):
         path, _, kind = os.path.join(STORED, name).rpartition('.')
         if kind == 'image':

@@ -33,7 +33,8 @@ within_from limit zero (b ∷ bs) es e =
     bind_parts (parse_from_at limit (hdr.1 - 1) bs) _ es p₂ λ es₂ e₂ p₃.
     let ee : es₁ ++ es₂ ≡ es = cc in
     subst (AllWithinAt limit) ee
-    (all_append (WithinAt limit) es₁ es₂ (entries_within limit hdr.0 _ es₁ e₁) (within_from limit (hdr.1 - 1) bs es₂ e₂))
+    (all_append (WithinAt limit) es₁ es₂ (entries_within limit hdr.0 _ es₁ e₁)
+    (within_from limit (hdr.1 - 1) bs es₂ e₂))
 
 pub range_within : (limit : ℕ) (jr : JournalRange) (es : List JournalEntry) → parse_journal_range_at limit jr ≡ Some es
     → AllWithinAt limit es

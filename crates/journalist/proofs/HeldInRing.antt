@@ -35,7 +35,8 @@ pub record HeldInRing (j : Journalist) (ring : List ℕ) (frozen memory : List J
   pub forms : cyclic_slice ring j.start (sum_journal_entries frozen + sum_journal_entries memory)
       ≡ wires frozen ++ wires memory
 
-module _ (j : Journalist) (ring : List ℕ) (frozen memory : List JournalEntry) (h : HeldInRing j ring frozen memory) where
+module _ (j : Journalist) (ring : List ℕ) (frozen memory : List JournalEntry)
+    (h : HeldInRing j ring frozen memory) where
   pub starts : j.start ≤ length ring - 1
   starts = let k = ring_counts j ring h.hangs in omega (arith, (ring_told j ring h.hangs).1)
 

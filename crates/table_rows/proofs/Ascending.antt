@@ -8,7 +8,7 @@ use lib.ListN.{length, drop}
 use Rattle.refusals.proofs.Tests.{both}
 use Rattle.journal_entry.specs.Entry.{JournalEntry, journal_insert, journal_clone}
 use Rattle.words.specs.Lists.{All}
-use Rattle.words.proofs.All.{all_map}
+use Rattle.words.proofs.All.{all_append, all_map}
 use Rattle.key_map.specs.Keys.{before, begins, same}
 use Rattle.table_rows.specs.declared.Reach.{Reach}
 use Rattle.table_rows.specs.declared.Reach.TheVariants.{Under}
@@ -84,7 +84,7 @@ module _ {P Q : List ℕ → Type 0} (order : (j k : List ℕ) → P j → Q k �
   pub append_sorted : (xs ys : List Row) → AllKeys P xs → AllKeys Q ys → Sorted xs → Sorted ys → Sorted (xs ++ ys)
   append_sorted [] ys p q s t = t
   append_sorted (r ∷ xs) ys p q s t = (
-    all_append (λ k. before r.key k ≡ true) xs ys s.0 (all_keys ys (λ k. order r.key k p.0) q),
+    all_append (λ x. before r.key x.key ≡ true) xs ys s.0 (all_keys ys (λ k. order r.key k p.0) q),
     append_sorted xs ys p.1 q s.1 t,
   )
 
@@ -113,7 +113,7 @@ runs_sorted reach at rows middle s m about =
     (behind_told reach at rows) m
     (where_sorted (λ k. before at k && not (meets reach at k)) rows s) in
     append_sorted (ahead_rest at) (ahead at rows) (middle ++ behind reach at rows) (where_told (λ k. before k at) rows)
-    (all_append (λ k. before k at ≡ false) middle (behind reach at rows)
+    (all_append (λ r. before r.key at ≡ false) middle (behind reach at rows)
     (all_keys middle (met_not_before reach at) about)
     (all_keys (behind reach at rows) (λ k q. before_not_back at k q.0) (behind_told reach at rows)))
     (where_sorted (λ k. before k at) rows s) rest

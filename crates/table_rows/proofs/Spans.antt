@@ -126,7 +126,7 @@ module _ (count : ℕ) (t : List ℕ) (reach : Reach) (key : List ℕ) (rows : L
       ap (skip_where (λ k. before k key) t 0) counted
       ∙ skip_rows (λ k. before k key) t (ahead key rows) later 0 pad (omega arith) bytes_are split_within
       (where_told (λ k. before k key) rows)
-      (all_append (λ k. before k key ≡ false) (met reach key rows) (behind reach key rows)
+      (all_append (λ r. before r.key key ≡ false) (met reach key rows) (behind reach key rows)
       (all_keys (met reach key rows) (met_not_before reach key) (where_told (meets reach key) rows))
       (all_keys (behind reach key rows) (λ k q. before_not_back key k q.0) (behind_told reach key rows)))
       ∙ ap₂ rows_from zero_more length_later

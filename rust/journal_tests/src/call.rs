@@ -146,7 +146,8 @@ impl Call {
     pub fn numbers(self) -> &'static [u64] {
         match self {
             Open { .. } => &[1, 9],
-            AppendInsert | AppendClone => &[2, 3, 4, 5, 6],
+            AppendInsert => &[2, 3, 4, 22, 5, 6],
+            AppendClone => &[2, 3, 4, 5, 6],
             Freeze => &[2],
             Thaw => &[2, 17],
             PackageFrozen => &[2, 8, 15, 9],

@@ -37,6 +37,7 @@ const REFUSALS: &[(&str, Refusal)] = &[
     ("CARD_FULL", Refusal::CardFull),
     ("KEY_TOO_LONG", Refusal::KeyTooLong),
     ("TABLE_FULL", Refusal::TableFull),
+    ("NO_KEY", Refusal::NoKey),
 ];
 
 const PLACES: &[(&str, usize)] = &[
@@ -116,7 +117,7 @@ fn codes() {
     let named = Refusal::of_code(12 + 256 * 300);
     assert_eq!(named, Some(Refusal::ChecksumDiffers { block: 300 }));
     assert_eq!(named.unwrap().to_string(), "the checksum of block 300 differs");
-    for code in [0, 22, 255, 256, 1 + 256, 11 + 256, 13 + 256, u64::MAX] {
+    for code in [0, 23, 255, 256, 1 + 256, 11 + 256, 13 + 256, u64::MAX] {
         assert_eq!(Refusal::of_code(code), None, "{code}");
     }
 }

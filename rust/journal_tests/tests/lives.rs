@@ -186,7 +186,7 @@ fn live(card: &mut Card, r: usize, most: usize, random: &mut Random, seen: &mut 
     let mut out = vec![0; BLOCK * card.blocks()];
     while random.below(80) > 0 {
         match random.below(20) {
-            0..13 => seen.full += usize::from(!unit.append(Entry::random(random, most))),
+            0..13 => seen.full += usize::from(!unit.append(Entry::random(random, most).keyed())),
             13 => unit.freeze(),
             14 => seen.thawed += usize::from(unit.thaw()),
             15..18 => {

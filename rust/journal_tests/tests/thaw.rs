@@ -2,7 +2,7 @@
 //! model's image byte for byte, and the model reads it.
 use journal_tests::model::block::{self, BLOCK, PAYLOAD};
 use journal_tests::model::entries;
-use journal_tests::model::writing::{self, some, Entry};
+use journal_tests::model::writing::{self, Entry};
 use journal_tests::random::{times, Random};
 use nungakes::{word, Journal, Refusal, WORDS};
 
@@ -11,6 +11,11 @@ use nungakes::{word, Journal, Refusal, WORDS};
 struct Unit {
     journal: Journal,
     ring: Vec<u8>,
+}
+
+/// Some that append takes.
+fn some(random: &mut Random) -> Vec<Entry> {
+    writing::some(random).into_iter().map(Entry::keyed).collect()
 }
 
 fn bytes(list: &[Entry]) -> usize {
@@ -139,15 +144,16 @@ fn the_last_that_moved_any() {
 fn a_full_region() {
     let random = &mut Random(4);
     for (a, b) in (1..5).flat_map(|a| (1..5).map(move |b| (a, b))) {
-        let [first, second] = [a, b].map(|n| writing::weighing(random, PAYLOAD * n - 8));
+        let full = |n| writing::weighing(random, PAYLOAD * n - 8).into_iter().map(Entry::keyed);
+        let [first, second] = [a, b].map(full).map(Vec::from_iter);
         let mut unit = Unit::new(a + b, PAYLOAD * (a + b), random);
         unit.freeze(&first);
         unit.append(&second);
-        let one_more = |unit: &mut Unit| unit.journal.append_insert(&mut unit.ring, &[], &[]);
+        let one_more = |unit: &mut Unit| unit.journal.append_clone(&mut unit.ring, &[], &[]);
         assert_eq!(one_more(&mut unit), Err(Refusal::RegionFull));
         assert_eq!(unit.journal.thaw(), Ok(()));
         assert_eq!([(); 2].map(|()| one_more(&mut unit)), [Ok(()), Err(Refusal::RegionFull)]);
-        let smallest = Entry { is_clone: false, first: vec![], second: vec![] };
+        let smallest = Entry { is_clone: true, first: vec![], second: vec![] };
         unit.packages(false, &[first, second, vec![smallest]].concat(), a + b);
     }
 }

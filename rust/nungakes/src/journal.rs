@@ -91,7 +91,8 @@ impl Journal {
         &mut self.words
     }
 
-    /// Puts an insert behind the in-memory list: 2, 3, 4, 5, 6. Only appends write the ring.
+    /// Puts an insert behind the in-memory list: 2, 3, 4, 22, 5, 6. Only appends write the ring. The key has one
+    /// byte at least.
     pub fn append_insert(
         &mut self,
         ring: &mut [u8],

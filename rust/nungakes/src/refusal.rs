@@ -29,6 +29,7 @@ pub enum Refusal {
     CardFull,
     KeyTooLong,
     TableFull,
+    NoKey,
 }
 
 use Refusal::*;
@@ -58,6 +59,7 @@ impl Refusal {
             CardFull => 19,
             KeyTooLong => 20,
             TableFull => 21,
+            NoKey => 22,
         }
     }
 
@@ -85,6 +87,7 @@ impl Refusal {
             19 => CardFull,
             20 => KeyTooLong,
             21 => TableFull,
+            22 => NoKey,
             _ => return None,
         })
     }
@@ -116,6 +119,7 @@ impl fmt::Display for Refusal {
             CardFull => "no room on the card for the image's blocks",
             KeyTooLong => "the clone would make a key of more than 512 bytes",
             TableFull => "no room in the replica's table for the resulting rows",
+            NoKey => "an insert without a key",
         };
         f.write_str(text)
     }

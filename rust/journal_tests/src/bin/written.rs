@@ -42,11 +42,12 @@ fn word(to: &mut impl Write, n: usize) -> io::Result<()> {
 fn list(k: usize, random: &mut Random) -> Vec<Entry> {
     if k.is_multiple_of(3) {
         let most = random.one_of(&[0, 3, 40, 1_024, 16_384]);
-        return (0..1 + random.below(30)).map(|_| Entry::random(random, most)).collect();
+        return (0..1 + random.below(30)).map(|_| Entry::random(random, most).keyed()).collect();
     }
     let blocks = if k % 20 == 7 { 12 + random.below(20) } else { 1 + random.below(4) };
     let end = random.one_of(&[PAYLOAD - 2, PAYLOAD - 1, PAYLOAD, PAYLOAD + 1]);
-    writing::weighing(random, PAYLOAD * (blocks - 1) + end - 8)
+    let list = writing::weighing(random, PAYLOAD * (blocks - 1) + end - 8);
+    list.into_iter().map(Entry::keyed).collect()
 }
 
 /// The list as a whole, or in two or three parts that may be empty.
@@ -72,7 +73,8 @@ fn append(words: &mut [u64], ring: &mut [u8], Entry { is_clone, first, second }:
 /// little longer, and behind a frozen one there may be an entry in memory. `out` has some bytes more.
 fn image(parts: &[&[Entry]], random: &mut Random) -> (bool, Vec<u8>) {
     let frozen = parts.len() > 1 || random.below(2) == 0;
-    let behind: Vec<Entry> = (0..random.below(2)).map(|_| Entry::random(random, 40)).collect();
+    let behind: Vec<Entry> =
+        (0..random.below(2)).map(|_| Entry::random(random, 40).keyed()).collect();
     let behind = if frozen { &behind[..] } else { &[] };
     let weight = parts.iter().copied().flatten().chain(behind).map(Entry::weight).sum::<usize>();
     let more = [(); 2].map(|()| random.one_of(&[0, 1, 50]));

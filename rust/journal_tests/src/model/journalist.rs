@@ -58,6 +58,7 @@ fn append(words: &mut [u64], ring: &mut [u8], entry: Entry) -> u64 {
         require(entry.first.len() <= FIRST as usize, 3)?;
         let limit = if entry.is_clone { CLONED } else { INSERTED };
         require(entry.second.len() <= limit as usize, 4)?;
+        require(entry.has_key(), 22)?;
         let own = List { entries: 1, bytes: entry.weight() as u128 };
         let header = if record.memory.entries == 0 { 8 } else { 0 };
         let weight = record.memory.weight() + own.bytes + header;

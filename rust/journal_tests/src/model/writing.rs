@@ -30,6 +30,20 @@ impl Entry {
         Entry { is_clone: false, first, second }
     }
 
+    /// Whether it is no insert without a key, which append refuses.
+    pub fn has_key(&self) -> bool {
+        self.is_clone || !self.first.is_empty()
+    }
+
+    /// One of the same weight that has a key: the last byte of its value. Without a value it is a clone.
+    pub fn keyed(mut self) -> Self {
+        if !self.has_key() {
+            self.first.extend(self.second.pop());
+            self.is_clone = self.first.is_empty();
+        }
+        self
+    }
+
     /// The bytes of its wire form.
     pub fn weight(&self) -> usize {
         8 + self.first.len() + self.second.len()

@@ -105,6 +105,7 @@ impl History {
             (2, !ring_as_long),
             (3, first.len() > 512),
             (4, second.len() > if *is_clone { 512 } else { 16_384 }),
+            (22, !is_clone && first.is_empty()),
             (5, weight > region),
             (6, weight > room),
         ]);

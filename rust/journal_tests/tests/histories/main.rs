@@ -17,7 +17,7 @@ struct Temper {
     appends: usize,
 }
 
-/// An entry: some, one that just fits or just doesn't, or one over a limit.
+/// An entry: some, one that just fits or just doesn't, one over a limit, or an insert without a key.
 fn entry(history: &History, Temper { least, most, .. }: Temper, random: &mut Random) -> Entry {
     let is_clone = random.below(2) == 1;
     let limits = [512, if is_clone { 512 } else { 16_384 }];
@@ -40,6 +40,10 @@ fn entry(history: &History, Temper { least, most, .. }: Temper, random: &mut Ran
         3 => {
             let second = random.one_of(&[512, 513, 4_096, 16_384, 16_385]);
             Entry { is_clone, first: random.bytes(9), second: random.bytes(second) }
+        }
+        4 => {
+            let second = random.below(most + 1);
+            Entry { is_clone: false, first: vec![], second: random.bytes(second) }
         }
         _ => {
             let [first, second] = limits.map(|limit| {
@@ -187,8 +191,8 @@ fn small_regions() {
     }
     let seen = total(&all);
     let wanted: [(&str, &[u8]); 18] = [
-        ("append", &[0, 2, 3, 4, 5, 6]),
-        ("append of long ones", &[0, 2, 4, 5, 6]),
+        ("append", &[0, 2, 3, 4, 5, 6, 22]),
+        ("append of long ones", &[0, 2, 4, 5, 6, 22]),
         ("freeze", &[0]),
         ("freeze of nothing", &[0]),
         ("load", &[0, 2, 9, 14]),

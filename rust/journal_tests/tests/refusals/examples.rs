@@ -1,5 +1,5 @@
 //! The example in each row of the table, and the document's two cases that need whole calls.
-use crate::{weighing, Case, Table};
+use crate::{smallest, weighing, Case, Table};
 use journal_tests::call::{Call, Call::*};
 use journal_tests::memory::Lent;
 use journal_tests::model::block::BLOCK;
@@ -77,7 +77,7 @@ fn examples(table: &mut Table) {
     assert_eq!([513, 512].map(|n| session.append(&insert(n))), [3, 0]);
     assert_eq!([513, 512].map(|n| session.append(&clone(n))), [4, 0]);
     assert_eq!([Thaw, Freeze, Thaw, Freeze].map(|call| session.alone(call)), [17, 0, 0, 0]);
-    assert_eq!(session.append(&weighing(8)), 0);
+    assert_eq!([insert(0), insert(1), smallest()].map(|entry| session.append(&entry)), [22, 0, 0]);
     assert_eq!(session.package(PackageInMemory, BLOCK), 7);
     let right = session.ring.clone();
     session.ring[1] = 0x20;
@@ -111,7 +111,7 @@ fn a_full_region(table: &mut Table) {
         assert_eq!(session.append(&weighing(last)), if last == 968 { 0 } else { 5 });
         if last == 968 {
             assert_eq!(session.words[6..8], [3, 4_056]);
-            assert_eq!(session.append(&weighing(8)), 5);
+            assert_eq!(session.append(&smallest()), 5);
         }
     }
 }
@@ -121,7 +121,8 @@ fn the_largest_entry(table: &mut Table) {
     let mut session = Session::open(table, 5, 20_320);
     let value = |n| Entry { is_clone: false, first: vec![0; 512], second: vec![0; n] };
     assert_eq!([16_385, 16_384].map(|n| session.append(&value(n))), [4, 0]);
-    assert_eq!([3_409, 3_408, 8].map(|n| session.append(&weighing(n))), [5, 0, 5]);
+    assert_eq!([3_409, 3_408].map(|n| session.append(&weighing(n))), [5, 0]);
+    assert_eq!(session.append(&smallest()), 5);
     assert_eq!(session.words[6..8], [2, 20_312]);
 }
 

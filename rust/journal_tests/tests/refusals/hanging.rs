@@ -186,7 +186,7 @@ fn no_room_for_a_thaw(table: &mut Table) {
     for bytes in [4_048, 4_056] {
         assert!(!table.all_refuse(&words), "{words:?}");
         let lent = Lent { words, written: vec![7; 10_000], ..Lent::default() };
-        words = table.accepted(&Case { call: AppendInsert, lent }).words;
+        words = table.accepted(&Case { call: AppendClone, lent }).words;
         assert_eq!(words[7], bytes);
     }
     assert!(table.all_refuse(&words), "{words:?}");

@@ -69,10 +69,15 @@ fn with(mut words: Vec<u64>, others: &Others) -> Vec<u64> {
     words
 }
 
-/// An entry of this weight, at most 16,904, which is an insert.
+/// An insert of this weight, 9 to 16,904, with the shortest key.
 fn weighing(weight: usize) -> Entry {
-    let second = (weight - 8).min(16_384);
+    let second = (weight - 9).min(16_384);
     Entry { is_clone: false, first: vec![1; weight - 8 - second], second: vec![2; second] }
+}
+
+/// The smallest entry.
+fn smallest() -> Entry {
+    Entry { is_clone: true, first: vec![], second: vec![] }
 }
 
 fn forms(entries: &[Entry]) -> Vec<u8> {
@@ -89,6 +94,6 @@ fn every_number_of_every_call() {
     hanging::run(&mut table);
     let all: BTreeSet<u64> = table.seen.values().flatten().copied().collect();
     // 16 is for places alone
-    assert!(all.into_iter().eq((0..=15).chain(17..=19)), "{:?}", table.seen);
+    assert!(all.into_iter().eq((0..=15).chain(17..=19).chain([22])), "{:?}", table.seen);
     assert_eq!(table.seen.len(), 26, "{:?}", table.seen.keys());
 }

@@ -128,19 +128,21 @@ fn appending(table: &mut Table) {
         (words[2], words[3]) = (words[5] + words[7] + 10, 0);
         case.lent.written.truncate(words[2] as usize);
     };
-    for call in [AppendInsert, AppendClone] {
-        let read = [b"ab".to_vec(), b"c".to_vec()];
-        let lent = Lent { words: words.clone(), read, written: vec![9; 30_000], ..Lent::default() };
-        table.in_order(
-            Case { call, lent },
-            &[
-                (5, &no_room_in_region),
-                (6, &[no_room_in_ring]),
-                (4, &[second_long]),
-                (3, &[|case| case.lent.read[0] = vec![0; 513]]),
-                (2, &damaged_or(&[written_short, written_long])),
-            ],
-        );
+    let read = [b"ab".to_vec(), b"c".to_vec()];
+    let lent = Lent { words, read, written: vec![9; 30_000], ..Lent::default() };
+    let damaged = damaged_or(&[written_short, written_long]);
+    let no_key: (u64, &[Fault]) = (22, &[|case| case.lent.read[0].clear()]);
+    for (call, own) in [(AppendInsert, Some(no_key)), (AppendClone, None)] {
+        // of both faults of the first bytes the later one is made: 3, which comes first
+        let faults: [(u64, &[Fault]); 5] = [
+            (5, &no_room_in_region),
+            (6, &[no_room_in_ring]),
+            (4, &[second_long]),
+            (3, &[|case| case.lent.read[0] = vec![0; 513]]),
+            (2, &damaged),
+        ];
+        let faults: Vec<_> = own.into_iter().chain(faults).collect();
+        table.in_order(Case { call, lent: lent.clone() }, &faults);
     }
 }
 
@@ -295,7 +297,7 @@ fn replaying(table: &mut Table) {
     // lengths over the limit, and bytes that are left over the end
     let unreadable: [Fault; 3] = [
         |case| case.lent.read[0][4] = 0x04,
-        |case| case.lent.read[0][8] = 0x40,
+        |case| case.lent.read[0][9] = 0x40,
         |case| case.lent.words[11..13].copy_from_slice(&[15, 1]),
     ];
     table.in_order(
@@ -315,6 +317,6 @@ fn replaying(table: &mut Table) {
     for count in counts {
         let mut case = Case { call: Top, lent: lent.clone() };
         count(&mut case);
-        assert_eq!(table.accepted(&case).answer, [0, 0, 7, 8, 11]);
+        assert_eq!(table.accepted(&case).answer, [0, 1, 7, 7, 12]);
     }
 }

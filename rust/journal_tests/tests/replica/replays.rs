@@ -1,10 +1,12 @@
 //! Histories: entries that stations journalled and packaged, loaded and replayed into one table, call by call.
 use crate::{clone, insert, map, Call::*, Replica, Tally};
+use journal_tests::model::entries;
 use journal_tests::model::replica::{stepped, table, Map};
 use journal_tests::model::writing::{self, Entry};
 use journal_tests::random::{times, Random};
 use journal_tests::replica::Lent;
 use nungakes::{word, Journal, Refusal, BLOCK, PAYLOAD};
+use std::fs;
 use std::slice::from_ref;
 
 /// Blocks of a station's region, and of the centre's.
@@ -23,7 +25,8 @@ fn entries(n: usize, random: &mut Random) -> Vec<Entry> {
     (0..n).map(|_| entry(random)).collect()
 }
 
-/// The image that a station makes of its entries, in one batch or in two.
+/// The image that a station makes of its entries, in one batch or in two. Inserts without keys are of an older station,
+/// which still took them.
 fn image(entries: &[Entry], random: &mut Random) -> Vec<u8> {
     let mut ring = vec![0; BLOCKS * PAYLOAD];
     let mut journal = Journal::open(BLOCKS, ring.len()).unwrap();
@@ -31,6 +34,12 @@ fn image(entries: &[Entry], random: &mut Random) -> Vec<u8> {
     let mut blocks = 0;
     let (early, late) = entries.split_at(random.below(entries.len() + 1));
     for part in [early, late] {
+        if !part.iter().all(Entry::has_key) {
+            let older = writing::image(&writing::batch(part, 0));
+            image[BLOCK * blocks..][..older.len()].copy_from_slice(&older);
+            blocks += older.len() / BLOCK;
+            continue;
+        }
         for Entry { is_clone, first, second } in part {
             let append = if *is_clone { Journal::append_clone } else { Journal::append_insert };
             append(&mut journal, &mut ring, first, second).unwrap();
@@ -123,6 +132,22 @@ fn of_histories() {
         }
     }
     tally.ends(Replay, &[0, 8, 20, 21], 2_000);
+}
+
+/// Of an image in store, of a version that still took inserts without a key: they share a row.
+#[test]
+fn of_an_older_stations_image() {
+    let (tally, random) = (&mut Tally::default(), &mut Random(5));
+    let folder = concat!(env!("CARGO_MANIFEST_DIR"), "/../../tests/stored");
+    let image = fs::read(format!("{folder}/keyless.image")).unwrap();
+    let mut payload = vec![0; image.len() / BLOCK * PAYLOAD];
+    nungakes::strip(&image, &mut payload).unwrap();
+    let entries = entries::range(&payload).unwrap();
+    let replica = &mut Replica::new(Map::new(), 1_000);
+    tally.replay_all(&image, replica, &entries, random);
+    assert_eq!(tally.lookup(replica, b""), Ok(b"weight 377".to_vec()));
+    assert_eq!(tally.lookup(replica, b"copy/"), Ok(b"weight 395".to_vec()));
+    tally.ends(Replay, &[0, 8], 8);
 }
 
 /// Two ranges one after the other are the joined range; and the same is had by the steps' own calls.

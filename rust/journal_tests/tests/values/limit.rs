@@ -14,13 +14,16 @@ const CLONED: [usize; 8] = [513, 514, 1_024, 4_064, 4_065, 8_128, 16_383, 16_384
 
 /// What is too long, and the same entry with as much as its kind may have.
 fn pairs(random: &mut Random) -> Vec<[Entry; 2]> {
-    let mut pair = |is_clone, len, most| {
-        let first = random.one_of(&[0, 5, 512]);
-        let longer = Entry { is_clone, ..insert(first, len, random) };
-        [longer.clone(), Entry { second: longer.second[..most].into(), ..longer }]
-    };
-    let inserts: Vec<_> = LONGER.iter().map(|len| pair(false, *len, 16_384)).collect();
-    inserts.into_iter().chain(CLONED.map(|len| pair(true, len, 512))).collect()
+    let inserts = LONGER.map(|len| (false, len, 16_384));
+    let clones = CLONED.map(|len| (true, len, 512));
+    let first = [0, 5, 512].into_iter().cycle();
+    let kinds = inserts.into_iter().chain(clones).zip(first);
+    kinds
+        .map(|((is_clone, len, most), first)| {
+            let longer = Entry { is_clone, ..insert(first, len, random) };
+            [longer.clone(), Entry { second: longer.second[..most].into(), ..longer }]
+        })
+        .collect()
 }
 
 /// All of them, each with what a call gives on it: this number where it is too long.
@@ -37,7 +40,8 @@ fn lists(entry: &Entry, random: &mut Random) -> [Vec<Entry>; 4] {
     })
 }
 
-/// 4, where region and ring have room for the longer one too.
+/// 4, where region and ring have room for the longer one too; also where there is no key, for which the shorter one is
+/// refused.
 #[test]
 fn appended() {
     let mut tally = Tally::default();
@@ -49,10 +53,11 @@ fn appended() {
             let start = random.below(r);
             let journal = || Journal::holding(needed(r), r, start, MEMORY, &before, 0);
             assert_eq!(tally.append(&mut journal(), &longer), 4);
-            assert_eq!(tally.append(&mut journal(), &right), 0);
+            let wanted = if right.has_key() { 0 } else { 22 };
+            assert_eq!(tally.append(&mut journal(), &right), wanted);
         }
     }
-    tally.ends(&[0, 4], 64);
+    tally.ends(&[0, 4, 22], 64);
 }
 
 /// 14 by range and load, wherever the entry is in its batch and however that is split; by top and pop when it is

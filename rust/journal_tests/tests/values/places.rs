@@ -18,14 +18,15 @@ fn appended(tally: &mut Tally, list: &[Entry], start: usize, more: usize) {
 
 /// A value of this length that starts at a place of a block, with entries before and behind it.
 fn placed(at: usize, len: usize, random: &mut Random) -> Vec<Entry> {
-    let first = random.one_of(&[0, 5, 512]);
+    let first = random.one_of(&[1, 5, 512]);
     // the batch's two words, the entry's two, its first bytes, and none or at least 8 of entries before it
     let before = (PAYLOAD + at - 16 - first) % PAYLOAD;
     let before = if (1..8).contains(&before) { before + PAYLOAD } else { before };
-    let mut list = writing::weighing(random, before);
+    let list = writing::weighing(random, before).into_iter();
+    let mut list: Vec<_> = list.map(Entry::keyed).collect();
     assert_eq!((8 + forms(&list).len() + 8 + first) % PAYLOAD, at);
     list.push(insert(first, len, random));
-    list.push(Entry::random(random, 40));
+    list.push(Entry::random(random, 40).keyed());
     list
 }
 
@@ -51,9 +52,10 @@ fn at_places_of_a_block() {
 fn over_the_end_of_a_ring() {
     let mut tally = Tally::default();
     let random = &mut Random(2);
-    for (first, len) in [0, 5, 512].into_iter().flat_map(|first| LENGTHS.map(|len| (first, len))) {
+    for (first, len) in [1, 5, 512].into_iter().flat_map(|first| LENGTHS.map(|len| (first, len))) {
         let list =
-            [Entry::random(random, 40), insert(first, len, random), Entry::random(random, 40)];
+            [Entry::random(random, 40), insert(first, len, random), Entry::random(random, 40)]
+                .map(Entry::keyed);
         let before = list[0].weight();
         let value = 8 + first;
         let pieces = [(0, 4), (4, 4 + first), (4 + first, value), (value, value + len)];

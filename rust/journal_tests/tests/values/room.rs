@@ -9,7 +9,7 @@ const WRITTEN: usize = 8;
 
 /// One of each length, and the largest.
 fn entries(random: &mut Random) -> Vec<Entry> {
-    let lengths = LENGTHS.map(|len| insert(random.below(513), len, random));
+    let lengths = LENGTHS.map(|len| insert(1 + random.below(512), len, random));
     lengths.into_iter().chain([Entry::largest(random)]).collect()
 }
 
@@ -81,7 +81,7 @@ fn behind_others() {
     let mut tally = Tally::default();
     let random = &mut Random(3);
     for len in LENGTHS {
-        for first in [0, 512] {
+        for first in [1, 512] {
             let entry = insert(first, len, random);
             let n = needed(entry.weight() + 8);
             let room = PAYLOAD * n - 8 - entry.weight();

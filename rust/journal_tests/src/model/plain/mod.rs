@@ -61,6 +61,7 @@ fn append(
     require(ring.len() == record.r, 2)?;
     require(first.len() <= FIRST as usize, 3)?;
     require(second.len() <= if is_clone { CLONED } else { INSERTED } as usize, 4)?;
+    require(is_clone || !first.is_empty(), 22)?;
     let weight = 8 + first.len() + second.len();
     let used = PAYLOAD * (record.written + record.held) + 8 + record.memory.bytes;
     require(used + weight <= PAYLOAD * record.n, 5)?;
