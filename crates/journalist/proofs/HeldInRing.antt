@@ -1,26 +1,32 @@
 -- Pending entries read as themselves: any lists within the limits whose wire forms the ring holds, also with inserts
--- without first bytes, which append once took (document 02, paper 8). So no packaging gives 15 over them. Assumes
--- nothing.
+-- without first bytes, which append once took (document 02, paper 8). So no packaging gives 15 over them, and each hands
+-- out the image of its list. Assumes nothing.
 use mathlib.Core.Path.{◌≡◌, refl, sym, ◌∙◌}
 use mathlib.Core.Bool.{true}
 use mathlib.Core.List.{List, ◌++◌}
 use Rattle.std.specs.Prelude.{Some}
-use Prim.Native.Nat.{ℕ, ◌+◌, ◌-◌, ◌≤◌}
+use Prim.Native.Nat.{ℕ, ◌+◌, ◌-◌, ◌*◌, ◌≤◌}
 use native.Mathlib.Nat.{sub-zero}
 use native.Mathlib.Omega.{arith}
 use borrow.Author.Tests.{eq-eqb}
 use lib.ListN.{length, take, drop}
 use lib.Seq.{take_at, drop_at}
+use Rattle.refusals.specs.Outcome.{gives}
 use Rattle.words.proofs.Slices.{drop_take}
 use Rattle.journal_entry.specs.Entry.{JournalEntry, AllWithin, clones_of, sum_journal_entries, wires}
 use Rattle.journal_entry.proofs.Reading.{length_wires, read_exactly_wires}
 use Rattle.journal_entry.proofs.Walks.{clones_append}
 use Rattle.journal_ring.specs.Ring.{rotated, cyclic_slice}
 use Rattle.journal_ring.proofs.RingLaws.{take_front}
+use Rattle.marshalling.specs.Marshall.{marshall_journal_entries}
 use Rattle.journalist.specs.declared.Journalist.{Journalist}
 use Rattle.journalist.specs.Append.{ring_hangs}
-use Rattle.journalist.specs.Package.{frozen_read, memory_read, frozen_clones, memory_clones, ring_reads}
+use Rattle.journalist.specs.Changes.{memory_blocks, packaged_frozen_record, packaged_in_memory_record}
+use Rattle.journalist.specs.Package.{frozen_read, memory_read, frozen_clones, memory_clones, ring_reads, packaged}
+use Rattle.journalist.specs.Package.{package_frozen_journal_call, frozen_image}
+use Rattle.journalist.specs.Package.{package_in_memory_journal_call, memory_image}
 use Rattle.journalist.proofs.Facts.{ring_told, ring_counts}
+use Rattle.journalist.proofs.PackageLaws.{frozen_gives, memory_gives}
 
 -- the record counts these two lists, and the ring holds them from start on
 pub record HeldInRing (j : Journalist) (ring : List ℕ) (frozen memory : List JournalEntry) : Type 0 where
@@ -80,3 +86,28 @@ module _ (j : Journalist) (ring : List ℕ) (frozen memory : List JournalEntry)
       let total : clones_of frozen + clones_of memory ≡ j.clones =
       sym (h.clones_are ∙ clones_append frozen memory) in
       rw (frozen_reads, memory_reads, eq-eqb (clones_of frozen + clones_of memory) j.clones total) refl
+
+  -- "Ones already pending are packaged": each list as its own image, where it has entries and the output has room
+  pub frozen_goes_out : (out : List ℕ) → (j.frozen.entries ≡ 0 → ⊥) → 4096 * j.held ≤ length out
+      → (package_frozen_journal_call j ring out
+      ≡ gives (packaged (packaged_frozen_record j (clones_of frozen)) j.held))
+      × (frozen_image j ring ≡ marshall_journal_entries frozen j.held)
+  unfolding frozen_image
+  frozen_goes_out out some room = (
+    rw (← frozen_clones_lem)
+        (frozen_gives j ring out (record { hangs = h.hangs; some_entries = some; read = never_15; room = room })),
+    rw frozen_reads refl,
+  )
+
+  pub memory_goes_out : (out : List ℕ) → j.frozen.entries ≡ 0 → (j.memory.entries ≡ 0 → ⊥)
+      → 4096 * memory_blocks j ≤ length out
+      → (package_in_memory_journal_call j ring out
+      ≡ gives (packaged (packaged_in_memory_record j (clones_of memory)) (memory_blocks j)))
+      × (memory_image j ring ≡ marshall_journal_entries memory (memory_blocks j))
+  unfolding memory_image
+  memory_goes_out out none some room = (
+    rw (← memory_clones_lem)
+        (memory_gives j ring out
+        (record { hangs = h.hangs; no_frozen = none; some_entries = some; read = never_15; room = room })),
+    rw memory_reads refl,
+  )
