@@ -29,6 +29,7 @@ pub fn advance(size: usize, at: usize, n: usize) -> usize
 
 // Writes src into the ring from `at` on, in one run or two, and returns the place behind it. (The ring and the place
 // are handed on apart: of a slice that is lent in a struct, a caller's proof gets only the length back.)
+#[inline(always)]
 fn put_bytes(ring: &mut [u8], at: usize, src: &[u8]) -> usize
     requires { (at < length ring.old) × (length src.now ≤ length ring.old) }
     ensures value { result ≡ advance (length ring.old) at (length src.now) }
@@ -60,6 +61,7 @@ fn put_word(ring: &mut [u8], at: usize, n: u32) -> usize
 }
 
 // Writes an entry's wire form into the ring from `at` on: four pieces, one straight behind the other.
+#[inline(always)]
 fn put_form(ring: &mut [u8], at: usize, kind: Kind, first: &[u8], second: &[u8])
     requires at_in_bounds { (at < length ring.old) × (8 + length first.now + length second.now ≤ length ring.old) }
     requires first_len_bound { (length first.now ≤ 512) × (length second.now ≤ 16384) }
@@ -75,6 +77,7 @@ fn put_form(ring: &mut [u8], at: usize, kind: Kind, first: &[u8], second: &[u8])
 
 // Writes an entry's wire form behind the bytes pending from `start` on, if there is room. Nothing else of the ring
 // is changed.
+#[inline(always)]
 #[tactic(auto, using(crate::proofs::Taken::put_not))]
 pub fn put_entry(
     ring: &mut [u8],

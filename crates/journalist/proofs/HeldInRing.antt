@@ -1,6 +1,6 @@
 -- Pending entries read as themselves: any lists within the limits whose wire forms the ring holds, also with inserts
--- without first bytes, which append once took (document 02, paper 8). So no packaging gives 15 over them, and each hands
--- out the image of its list. Assumes nothing.
+-- without first bytes, which append once took (document 02, paper 8). So no packaging gives 15 over them, and each
+-- hands out the image of its list. Assumes nothing.
 use mathlib.Core.Path.{◌≡◌, refl, sym, ◌∙◌}
 use mathlib.Core.Bool.{true}
 use mathlib.Core.List.{List, ◌++◌}
