@@ -21,7 +21,7 @@
 extern "C" {
 #endif
 
-/* Set the value of one key: 2, 3, 4, 21. */
+/* Set the value of one key: 2, 3, 4, 21. The key may have no bytes: units of before version 0.8.0 appended such. */
 uint64_t replica_insert(uint64_t *rows, size_t rows_len, uint8_t *table, size_t table_len,
     uint8_t *work, size_t work_len, const uint8_t *key, size_t key_len, const uint8_t *value, size_t value_len);
 

@@ -54,8 +54,8 @@ pub mod raw;
 use core::slice;
 use nungakes::{answered, Journal, Refusal};
 
-/// Sets the value of a key: 2, 3, 4, 21. 2 is for a table that is not of its form with this number of rows, and for a
-/// `work` of another length.
+/// Sets the value of a key, which may have no bytes: 2, 3, 4, 21. 2 is for a table that is not of its form with
+/// this number of rows, and for a `work` of another length.
 pub fn insert(
     rows: &mut u64,
     table: &mut [u8],
