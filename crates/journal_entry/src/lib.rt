@@ -93,14 +93,14 @@ impl Kind {
 }
 
 // The first length that a first length word says.
-fn first_len(word: u32) -> usize
+pub fn first_len(word: u32) -> usize
     ensures { result ≡ word - clone_mark (leb 4096 word) }
 {
     (word - Kind::of(word).mark()) as usize
 }
 
 // Whether an entry at `at` whose pieces have n bytes ends by `end`.
-fn fits(at: usize, n: usize, end: usize) -> bool
+pub fn fits(at: usize, n: usize, end: usize) -> bool
     ensures { result ≡ leb (at + 8 + n) end }
 {
     8 <= end && at <= end - 8 && n <= end - 8 - at
@@ -109,7 +109,7 @@ fn fits(at: usize, n: usize, end: usize) -> bool
 // The entry at `at` with these two length words, if it ends by `end` and is within the limits, in whatever sequence
 // the words stand.
 #[tactic(auto, using(crate::proofs::Options::fit_yes))]
-fn placed(word: u32, after: u32, at: usize, end: usize) -> Option<EntryPlace>
+pub fn placed(word: u32, after: u32, at: usize, end: usize) -> Option<EntryPlace>
     ensures { (s : List ℕ) → end ≤ length s → word ≡ word_at s at
         → after ≡ word_at s (at + 4 + (word - clone_mark (leb 4096 word))) → result ≡ entry_at s at end }
 {

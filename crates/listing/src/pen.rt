@@ -1,10 +1,10 @@
 // A pen: it puts one part of the text behind the other.
-ghost use Rattle.std.specs.Prelude.{◌≡◌, [], ◌∷◌};
+ghost use Rattle.std.specs.Prelude.{◌≡◌, [], ◌∷◌, ◌*◌, ◌<◌, length};
 ghost use Rattle.journal_entry.specs.Entry.{entry_of};
 ghost use Rattle.journal_entry.specs.Parse.{read_entries};
 ghost use Rattle.journal_entry.specs.Places.{is_clone_kind, entry_at_place};
 ghost use Rattle.listing.specs.Text.{hex_bytes, piece, decimal, number_line, entry_line};
-ghost use Rattle.listing.specs.Text.{letter as Text·letter};
+ghost use Rattle.listing.specs.Text.{digit as Text·digit, letter as Text·letter};
 ghost use Rattle.listing.specs.Listing.{PiecesIn, Reads, lines_of};
 ghost use Rattle.listing.specs.Put.{Puts, Room};
 
@@ -24,6 +24,26 @@ fn letter(kind: Kind) -> u8
     match kind {
         Kind::Insert => b'I',
         Kind::Clone => b'C',
+    }
+}
+
+// The character of a digit below 16.
+fn digit(d: u8) -> u8
+    requires { d < 16 }
+    ensures { result ≡ Text·digit d }
+{
+    if d < 10 { 48 + d } else { 87 + d }
+}
+
+// Bytes in hexadecimal, two digits each, over the whole of a slice. (By the places in it, so that the compiler makes
+// many digits at a time.)
+fn hex_over(bytes: &[u8], out: &mut [u8])
+    requires { length out.old ≡ 2 * length bytes.now }
+    ensures { out.new ≡ hex_bytes bytes.now }
+{
+    for i in 0..bytes.len() {
+        out[2 * i] = digit(bytes[i] / 16);
+        out[2 * i + 1] = digit(bytes[i] % 16);
     }
 }
 
@@ -54,7 +74,7 @@ impl<'a> Pen<'a> {
         ensures { Puts self.old (hex_bytes bytes.now) self.new }
     {
         let end = self.at + 2 * bytes.len();
-        hex::encode_to_slice(bytes, &mut self.text[self.at..end]).unwrap();
+        hex_over(bytes, &mut self.text[self.at..end]);
         self.at = end;
     }
 

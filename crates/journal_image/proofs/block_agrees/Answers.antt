@@ -2,7 +2,9 @@
 -- bytes are no checksum. Assumes nothing.
 use mathlib.Core.Path.{◌∙◌, ap, ap₂}
 use native.Mathlib.Omega.{arith}
+use Rattle.std.proofs.Common.{rules}
 use lib.ListN.{take, drop, length-take}
+use Rattle.words.proofs.Slices.{tail}
 use Rattle.crc32c.specs.Crc32c.{checksum_bytes}
 use Rattle.crc32c.proofs.Range.{length_checksum_bytes}
 use Rattle.journal_image.specs.Image.{same_bytes, checksum_checks_out}
@@ -13,7 +15,9 @@ pub returns-in-Some : goal.returns-in-Some
 unfolding checksum_checks_out
 returns-in-Some c =
     let (sum, payload, long) = c.in-Some.ensures.cases in
-    c.eq.ensures ∙ compared _ _ ∙ ap₂ same_bytes sum (c.checksum.ensures ∙ ap checksum_bytes payload)
+    let whole = tail 32 c.args.block.now in
+    c.eq.ensures ∙ compared _ _
+    ∙ ap₂ same_bytes sum (c.checksum.ensures ∙ ap checksum_bytes (search (rules, payload, whole)))
 
 pub returns-in-None : goal.returns-in-None
 unfolding checksum_checks_out
